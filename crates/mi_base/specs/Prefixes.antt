@@ -1,0 +1,21 @@
+-- What names a cell.
+use Rattle.std.specs.Prelude.{ℕ, ◌&&◌, List, [], ◌∷◌, length, Bool, true, not, nat_eq, nat_le, nat_lt}
+use Rattle.std.specs.List.{list_any}
+
+-- the number stands in the list
+abbrev pub has : ℕ → List ℕ → Bool
+has x ys = list_any (nat_eq x) ys
+
+-- no number stands twice
+abbrev pub are_different : List ℕ → Bool
+are_different [] = true
+are_different (x ∷ xs) = not (has x xs) && are_different xs
+
+-- each is the number of one of at most so many pivots
+abbrev pub all_below : ℕ → List ℕ → Bool
+all_below n [] = true
+all_below n (x ∷ xs) = nat_lt x n && all_below n xs
+
+-- at most 6 of 32 pivots, none twice
+abbrev pub is_prefix : List ℕ → Bool
+is_prefix ps = nat_le (length ps) 6 && (all_below 32 ps && are_different ps)

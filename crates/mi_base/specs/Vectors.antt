@@ -1,0 +1,24 @@
+-- What a vector is.
+use Rattle.std.specs.Prelude.{◌≡◌, ℕ, ℤ, ◌<◌, ◌≤◌, ◌&&◌, List, [], ◌∷◌, length, Bool, true, false, IsTrue, Some, nat_le, unsigned_abs, slice_get, take, ◌⊎◌}
+use Rattle.mi_base.specs.declared.refusals.VectorRefusal.{VectorRefusal}
+use Rattle.mi_base.specs.declared.refusals.VectorRefusal.TheVariants.{Length, Coordinate}
+
+-- a coordinate is from -1,000,000 to 1,000,000
+abbrev pub is_coordinate : ℤ → Bool
+is_coordinate z = nat_le (unsigned_abs z) 1000000
+
+abbrev pub all_coordinates : List ℤ → Bool
+all_coordinates [] = true
+all_coordinates (x ∷ xs) = is_coordinate x && all_coordinates xs
+
+-- 1 to 64 coordinates
+pub record IsVector (xs : List ℤ) : Type 0 where
+  pub some : 1 ≤ length xs
+  pub few : length xs ≤ 64
+  pub coordinates : IsTrue (all_coordinates xs)
+
+-- why these numbers are none: how many they are, or else the first that is no coordinate
+abbrev pub IsRefused : List ℤ → VectorRefusal → Type 0
+IsRefused xs (Length items) = (items ≡ length xs) × ((items ≡ 0) ⊎ (64 < items))
+IsRefused xs (Coordinate place value) =
+    (1 ≤ length xs) × (length xs ≤ 64) × (slice_get xs place ≡ Some value) × (is_coordinate value ≡ false) × IsTrue (all_coordinates (take place xs))

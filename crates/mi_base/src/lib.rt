@@ -1,0 +1,41 @@
+//! The values of the index: identifiers, vectors, prefixes, updates, replies and settings.
+#![tactic(auto)]
+
+mod counting;
+mod ids;
+mod lists;
+mod prefixes;
+mod records;
+mod refusals;
+mod settings;
+mod vectors;
+
+pub use counting::Steps;
+pub use ids::Id;
+pub use lists::Sequence;
+pub use prefixes::Prefix;
+pub use records::{Actor, LogEvent, Op, Position, Reply, Row, ScheduleItem, Take, Update};
+pub use refusals::{NoMemory, OutOfRange, VectorRefusal};
+pub use settings::{MetricKind, Settings};
+pub use vectors::Vector;
+
+/// A list of bytes.
+pub type Bytes = Sequence<u8>;
+/// A list of vectors.
+pub type VectorList = Sequence<Vector>;
+/// One row of a distance table.
+pub type TableRow = Sequence<u32>;
+/// The rows of a distance table.
+pub type TableRows = Sequence<TableRow>;
+/// The rows of an answer.
+pub type Rows = Sequence<Row>;
+/// Updates and splits in the order in which they were accepted.
+pub type Log = Sequence<LogEvent>;
+/// The operations of one session, in order.
+pub type Script = Sequence<Op>;
+/// What the actors are given, in order.
+pub type Schedule = Sequence<ScheduleItem>;
+/// The replies to one script, in order.
+pub type Replies = Sequence<Reply>;
+/// The replies to each script.
+pub type Transcript = Sequence<Replies>;

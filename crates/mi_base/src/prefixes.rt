@@ -1,0 +1,62 @@
+//! The names of cells.
+ghost use Rattle.std.specs.Prelude.{◌≡◌, ◌<◌, ◌==◌, Some, length, IfSome, IfNone, IsTrue, slice_get, false};
+ghost use Rattle.mi_base.specs.Prefixes.{is_prefix};
+
+use arrayvec::ArrayVec;
+use std::marker::Model;
+
+/// Up to 6 pivot numbers from 0 to 31, none twice.
+#[derive(Drop)]
+pub struct Prefix {
+    pivots: ArrayVec<u8, 6>,
+}
+
+impl Model for Prefix {
+    ghost use Rattle.std.specs.Prelude.{List, ℕ, IsTrue};
+    ghost use Rattle.mi_base.specs.Prefixes.{is_prefix};
+
+    ghost Value = { List ℕ };
+
+    ghost view = { λ p. p.pivots.items };
+
+    ghost invariant = { λ p. IsTrue (is_prefix p.pivots.items) };
+}
+
+impl Prefix {
+    /// None exactly where there are more than 6 items, an item above 31, or a repeat. It takes no memory.
+    pub fn new(items: &[u8]) -> Option<Prefix>
+        ensures some { IfSome result (λ p. (p ≡ items.now) × IsTrue (is_prefix items.now)) }
+        ensures none { IfNone result (is_prefix items.now ≡ false) }
+    {
+        if items.len() > 6 {
+            return None;
+        }
+        let mut pivots = ArrayVec::new();
+        for item in items {
+            if *item > 31 || pivots.as_slice().contains(item) {
+                return None;
+            }
+            pivots.push(*item);
+        }
+        Some(Prefix { pivots })
+    }
+
+    pub fn len(&self) -> usize
+        ensures { result ≡ length self.now }
+    {
+        self.pivots.len()
+    }
+
+    pub fn is_empty(&self) -> bool
+        ensures { result ≡ (length self.now == 0) }
+    {
+        self.pivots.is_empty()
+    }
+
+    pub fn at(&self, place: usize) -> u8
+        requires { place < length self.now }
+        ensures { slice_get self.now place ≡ Some result }
+    {
+        self.pivots[place]
+    }
+}
