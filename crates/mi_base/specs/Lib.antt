@@ -1,6 +1,7 @@
 pub mod Configuration
 pub mod History
 pub mod Prefixes
+pub mod Scripts
 pub mod Sorting
 pub mod Space
 pub mod Vectors
