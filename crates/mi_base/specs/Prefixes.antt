@@ -1,10 +1,10 @@
 -- What names a cell.
-use Rattle.std.specs.Prelude.{ℕ, ◌&&◌, List, [], ◌∷◌, length, Bool, true, not, nat_eq, nat_le, nat_lt}
-use Rattle.std.specs.List.{list_any}
+use Rattle.std.specs.Prelude.{ℕ, ◌&&◌, List, [], ◌∷◌, length, Bool, true, not, ◌==◌, nat_le, nat_lt}
+use Rattle.std.specs.List.{list_all, list_any}
 
 -- the number stands in the list
 abbrev pub has : ℕ → List ℕ → Bool
-has x ys = list_any (nat_eq x) ys
+has x ys = list_any (λ y. y == x) ys
 
 -- no number stands twice
 abbrev pub are_different : List ℕ → Bool
@@ -13,8 +13,7 @@ are_different (x ∷ xs) = not (has x xs) && are_different xs
 
 -- each is the number of one of at most so many pivots
 abbrev pub all_below : ℕ → List ℕ → Bool
-all_below n [] = true
-all_below n (x ∷ xs) = nat_lt x n && all_below n xs
+all_below n xs = list_all (λ x. nat_lt x n) xs
 
 -- at most 6 of 32 pivots, none twice
 abbrev pub is_prefix : List ℕ → Bool

@@ -1,5 +1,6 @@
 -- What a vector is.
-use Rattle.std.specs.Prelude.{◌≡◌, ℕ, ℤ, ◌<◌, ◌≤◌, ◌&&◌, List, [], ◌∷◌, length, Bool, true, false, IsTrue, Some, nat_le, unsigned_abs, slice_get, take, ◌⊎◌}
+use Rattle.std.specs.Prelude.{◌≡◌, ℕ, ℤ, ◌<◌, ◌≤◌, List, length, Bool, false, IsTrue, Some, nat_le, unsigned_abs, slice_get, take, ◌⊎◌}
+use Rattle.std.specs.List.{list_all}
 use Rattle.mi_base.specs.declared.refusals.VectorRefusal.{VectorRefusal}
 use Rattle.mi_base.specs.declared.refusals.VectorRefusal.TheVariants.{Length, Coordinate}
 
@@ -8,8 +9,7 @@ abbrev pub is_coordinate : ℤ → Bool
 is_coordinate z = nat_le (unsigned_abs z) 1000000
 
 abbrev pub all_coordinates : List ℤ → Bool
-all_coordinates [] = true
-all_coordinates (x ∷ xs) = is_coordinate x && all_coordinates xs
+all_coordinates xs = list_all is_coordinate xs
 
 -- 1 to 64 coordinates
 pub record IsVector (xs : List ℤ) : Type 0 where

@@ -1,0 +1,39 @@
+use Rattle.std.proofs.Common.{◌≡◌, ◌<◌, [], ◌∷◌, ◌++◌, not, length, take, get_or, Bool, true, false, ◌&&◌, nat_lt, nat_le, refl, sym, ap, ◌∙◌, arith, rules}
+use Rattle.std.proofs.lemmas.Bool.Decides.{nat_tests}
+use Rattle.std.proofs.lemmas.List.Folds.{list_all_at, list_all_more}
+use Rattle.std.proofs.lemmas.List.{take_more}
+use Rattle.mi_base.specs.Prefixes.{has, is_prefix, all_below, are_different}
+use Rattle.mi_base.proofs.PrefixLemmas.{are_different-append, are_different-repeat, and-false}
+use Rattle.mi_base.proofs.prefixes.Prefix.new.Goals as goal
+use Rattle.mi_base.proofs.prefixes.Prefix.new.Goals.{then-item-gt31-via-then-item-gt31, then-item-gt31-via-else-item-gt31+then-contains}
+
+pub returns-then-item-gt31-clause-none : goal.returns-then-item-gt31-clause-none
+returns-then-item-gt31-clause-none c =
+    let items = c.args.items.now in
+    let i = c.loop-item.item-index in
+    elim c.then-item-gt31.branch [
+      | then-item-gt31-via-then-item-gt31 w ↦
+          let high : nat_lt (get_or items i 0) 32 ≡ false = let h = w.if-item-gt31.true in grind (arith, nat_tests) in
+          ap (λ b. nat_le (length items) 6 && (b && are_different items)) (list_all_at (λ x. nat_lt x 32) items i 0 c.loop-item-test.true high)
+          ∙ and-false (nat_le (length items) 6)
+      | then-item-gt31-via-else-item-gt31+then-contains w ↦
+          let stands : has (get_or items i 0) (take i items) ≡ true =
+            ap (has (get_or items i 0)) (sym (w.as_slice.ensures.value ∙ c.loop-item.invariant.kept)) ∙ sym w.contains.ensures.value ∙ w.if-contains.true in
+          ap (λ b. nat_le (length items) 6 && (all_below 32 items && b)) (are_different-repeat items i c.loop-item-test.true stands)
+          ∙ ap (λ b. nat_le (length items) 6 && b) (and-false (all_below 32 items))
+          ∙ and-false (nat_le (length items) 6)
+    ]
+
+pub loop-item-preserved : goal.loop-item-preserved
+loop-item-preserved c =
+    let items = c.args.items.now in
+    let i = c.loop-item.item-index in
+    let low : nat_lt (get_or items i 0) 32 ≡ true = let h = c.if-item-gt31.false in grind (arith, nat_tests) in
+    let apart : has (get_or items i 0) (take i items) ≡ false =
+      ap (has (get_or items i 0)) (sym (c.as_slice.ensures.value ∙ c.loop-item.invariant.kept)) ∙ sym c.contains.ensures.value ∙ c.if-contains.false in
+    record {
+      kept = c.push.ensures.items ∙ ap (λ xs. xs ++ get_or items i 0 ∷ []) c.loop-item.invariant.kept ∙ sym (take_more items i 0 c.loop-item-test.true);
+      below = list_all_more (λ x. nat_lt x 32) items i 0 c.loop-item-test.true ∙ ap (λ b. b && nat_lt (get_or items i 0) 32) c.loop-item.invariant.below ∙ low;
+      different = ap are_different (take_more items i 0 c.loop-item-test.true) ∙ are_different-append (take i items) (get_or items i 0)
+        ∙ ap (λ b. not b && are_different (take i items)) apart ∙ c.loop-item.invariant.different;
+    }
