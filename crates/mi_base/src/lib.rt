@@ -12,7 +12,7 @@ mod vectors;
 
 pub use counting::Steps;
 pub use ids::Id;
-pub use lists::Sequence;
+pub use lists::{Sequence, sort_rows};
 pub use prefixes::Prefix;
 pub use records::{Actor, LogEvent, Op, Position, Reply, Row, ScheduleItem, Take, Update};
 pub use refusals::{NoMemory, OutOfRange, VectorRefusal};

@@ -1,7 +1,9 @@
 //! The one form of every list that contracts see as a list.
-ghost use Rattle.std.specs.Prelude.{◌≡◌, ◌<◌, ◌++◌, ◌==◌, [], ◌∷◌, Some, length, OnOk, OnErr, slice_get};
+ghost use Rattle.std.specs.Prelude.{◌≡◌, ◌<◌, ◌++◌, ◌==◌, [], ◌∷◌, Some, length, IfNone, IfOk, IfSome, OnOk, OnErr, slice_get};
+ghost use Rattle.mi_base.specs.History.{row_cmp};
+ghost use Rattle.mi_base.specs.Sorting.{sorted};
 
-use crate::NoMemory;
+use crate::{NoMemory, Rows};
 use std::alloc::Global;
 use std::marker::Model;
 
@@ -63,4 +65,28 @@ impl<T> Sequence<T> {
         self.items.push(item)?;
         Ok(())
     }
+
+    /// Takes the last item off.
+    pub fn pop(&mut self) -> Option<T>
+        ensures some { IfSome result (λ item. self.old ≡ self.new ++ item ∷ []) }
+        ensures none { IfNone result ((self.old ≡ []) × (self.new ≡ [])) }
+    {
+        self.items.pop()
+    }
+
+    /// An empty list with room for so many items, which can be pushed before more memory is taken.
+    pub fn with_room(alloc: Global, room: usize) -> Result<Self, NoMemory>
+        ensures { IfOk result (λ list. list ≡ []) }
+    {
+        Ok(Sequence {
+            items: Vec::with_capacity(alloc, room)?,
+        })
+    }
+}
+
+/// Puts rows in their order, by distance, then identifier. It takes no memory.
+pub fn sort_rows(rows: &mut Rows)
+    ensures { rows.new ≡ sorted row_cmp rows.old }
+{
+    rows.items.sort_unstable();
 }

@@ -59,4 +59,11 @@ impl Prefix {
     {
         self.pivots[place]
     }
+
+    pub fn as_slice(&self) -> &[u8]
+        ensures same { result.now ≡ self.now }
+        ensures prefix { IsTrue (is_prefix self.now) }
+    {
+        self.pivots.as_slice()
+    }
 }

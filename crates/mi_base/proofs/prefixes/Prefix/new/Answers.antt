@@ -18,7 +18,7 @@ returns-then-item-gt31-clause-none c =
           ∙ and-false (nat_le (length items) 6)
       | then-item-gt31-via-else-item-gt31+then-contains w ↦
           let stands : has (get_or items i 0) (take i items) ≡ true =
-            ap (has (get_or items i 0)) (sym (w.as_slice.ensures.value ∙ c.loop-item.invariant.kept)) ∙ sym w.contains.ensures.value ∙ w.if-contains.true in
+          ap (has (get_or items i 0)) (sym (w.as_slice.ensures.value ∙ c.loop-item.invariant.kept)) ∙ sym w.contains.ensures.value ∙ w.if-contains.true in
           ap (λ b. nat_le (length items) 6 && (all_below 32 items && b)) (are_different-repeat items i c.loop-item-test.true stands)
           ∙ ap (λ b. nat_le (length items) 6 && b) (and-false (all_below 32 items))
           ∙ and-false (nat_le (length items) 6)
@@ -30,10 +30,10 @@ loop-item-preserved c =
     let i = c.loop-item.item-index in
     let low : nat_lt (get_or items i 0) 32 ≡ true = let h = c.if-item-gt31.false in grind (arith, nat_tests) in
     let apart : has (get_or items i 0) (take i items) ≡ false =
-      ap (has (get_or items i 0)) (sym (c.as_slice.ensures.value ∙ c.loop-item.invariant.kept)) ∙ sym c.contains.ensures.value ∙ c.if-contains.false in
+    ap (has (get_or items i 0)) (sym (c.as_slice.ensures.value ∙ c.loop-item.invariant.kept)) ∙ sym c.contains.ensures.value ∙ c.if-contains.false in
     record {
       kept = c.push.ensures.items ∙ ap (λ xs. xs ++ get_or items i 0 ∷ []) c.loop-item.invariant.kept ∙ sym (take_more items i 0 c.loop-item-test.true);
       below = list_all_more (λ x. nat_lt x 32) items i 0 c.loop-item-test.true ∙ ap (λ b. b && nat_lt (get_or items i 0) 32) c.loop-item.invariant.below ∙ low;
       different = ap are_different (take_more items i 0 c.loop-item-test.true) ∙ are_different-append (take i items) (get_or items i 0)
-        ∙ ap (λ b. not b && are_different (take i items)) apart ∙ c.loop-item.invariant.different;
+          ∙ ap (λ b. not b && are_different (take i items)) apart ∙ c.loop-item.invariant.different;
     }

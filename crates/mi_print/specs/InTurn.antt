@@ -1,0 +1,30 @@
+-- One script alone: each operation finds the log as those before it left it.
+use Rattle.std.specs.Prelude.{◌≡◌, ℕ, ◌+◌, List, [], ◌∷◌}
+use Rattle.mi_base.specs.declared.records.Reply.{Reply}
+use Rattle.mi_base.specs.declared.records.Reply.TheVariants.{Stored, Removed, Present, Absent, Range, Nearest}
+use Rattle.mi_base.specs.declared.records.Position.{Position}
+
+-- the position of a log with so many updates and no splits
+abbrev pub place : ℕ → Position
+place n = record { updates = n; splits = 0 }
+
+-- a reply to an operation that began when the log had n updates
+abbrev pub BeganAt : ℕ → Reply → Type 0
+BeganAt n (Stored number) = number ≡ n + 1
+BeganAt n (Removed number) = number ≡ n + 1
+BeganAt n (Present p) = p ≡ place n
+BeganAt n (Absent p) = p ≡ place n
+BeganAt n (Range p rows cells distances) = p ≡ place n
+BeganAt n (Nearest p rows cells) = p ≡ place n
+BeganAt n y = Unit {0}
+
+-- how many updates the log has after this reply
+abbrev pub updates_after : ℕ → Reply → ℕ
+updates_after n (Stored number) = n + 1
+updates_after n (Removed number) = n + 1
+updates_after n y = n
+
+-- each operation began when the log had the updates of those before it and no others
+abbrev pub InTurn : ℕ → List Reply → Type 0
+InTurn n [] = Unit {0}
+InTurn n (y ∷ ys) = BeganAt n y × InTurn (updates_after n y) ys
