@@ -1,5 +1,6 @@
 -- The text of an outcome.
-use Rattle.std.specs.Prelude.{ℕ, ℤ, ◌+◌, ◌-◌, List, [], ◌∷◌, ◌++◌, length, map, codes, decimal, signed_decimal}
+use Rattle.std.specs.Prelude.{ℕ, ℤ, ◌+◌, ◌-◌, List, [], ◌∷◌, ◌++◌, length, map, codes, decimal}
+use Rattle.std.specs.Fmt.{signed_decimal}
 use Rattle.std.specs.List.{flat_map}
 use Rattle.mi_base.specs.declared.records.Update.{Update}
 use Rattle.mi_base.specs.declared.records.Update.TheVariants as update
@@ -62,7 +63,7 @@ event_line (event.Split prefix) = line (codes "split") (prefix_text prefix ∷ [
 
 abbrev pub history_lines : List LogEvent → List ℕ
 history_lines log =
-    number_line (codes "history") (length (updates_of log) ∷ length log - length (updates_of log) ∷ []) ++ flat_map event_line log
+    number_line (codes "history") (length (updates_of log) ∷ (length log - length (updates_of log)) ∷ []) ++ flat_map event_line log
 
 abbrev pub leaf_line : Leaf → List ℕ
 leaf_line leaf = number_line (prefix_text leaf.prefix) (leaf.count ∷ [])

@@ -1,5 +1,6 @@
 //! The text of an outcome, line by line.
-ghost use Rattle.std.specs.Prelude.{◌≡◌, ◌+◌, ◌≤◌, ◌++◌, [], ◌∷◌, length, List, ℕ, codes, decimal, signed_decimal, map};
+ghost use Rattle.std.specs.Prelude.{◌≡◌, ◌+◌, ◌≤◌, ◌++◌, [], ◌∷◌, length, List, ℕ, codes, decimal, map};
+ghost use Rattle.std.specs.Fmt.{signed_decimal};
 ghost use Rattle.std.specs.List.{flat_map};
 ghost use Rattle.mi_base.specs.History.{updates_of};
 ghost use Rattle.mi_outside.specs.Outside.{Sends};
@@ -8,7 +9,9 @@ ghost use Rattle.mi_print.specs.Render.{line, number_line, row_line, row_lines, 
 use crate::{Leaf, Leaves, Line, Outcome};
 use arrayvec::ArrayString;
 use itoa::Buffer;
-use mi_base::{Log, LogEvent, Position, Prefix, Replies, Reply, Row, Rows, Transcript, Update, Vector};
+use mi_base::{
+    Log, LogEvent, Position, Prefix, Replies, Reply, Row, Rows, Transcript, Update, Vector,
+};
 use mi_outside::{Sink, SinkFailed};
 
 /// Sends a word and numbers.
@@ -27,7 +30,7 @@ pub fn send_numbers<S: Sink>(word: &str, numbers: &[u64], out: &mut S) -> Result
 fn send_row<S: Sink>(row: &Row, out: &mut S) -> Result<(), SinkFailed>
     ensures { Sends (S.written out.old) (S.faults out.old) result (S.written out.new) (S.faults out.new) (row_line row.now) }
 {
-    let mut line = Line::of_number(u64::from(row.distance));
+    let mut line = Line::of_number(row.distance as u64);
     line.number(row.id.get());
     line.send(out)
 }
@@ -45,19 +48,19 @@ fn send_position<S: Sink>(word: &str, at: Position, out: &mut S) -> Result<(), S
     requires { length word.now ≤ 30 }
     ensures { Sends (S.written out.old) (S.faults out.old) result (S.written out.new) (S.faults out.new) (number_line word.now (at.updates ∷ at.splits ∷ [])) }
 {
-    send_numbers(word, &[u64::from(at.updates), u64::from(at.splits)], out)
+    send_numbers(word, &[at.updates as u64, at.splits as u64], out)
 }
 
 fn send_reply<S: Sink>(reply: &Reply, out: &mut S) -> Result<(), SinkFailed>
     ensures { Sends (S.written out.old) (S.faults out.old) result (S.written out.new) (S.faults out.new) (reply_lines reply.now) }
 {
     match reply {
-        Reply::Stored { number } => send_numbers("stored", &[u64::from(*number)], out),
-        Reply::Removed { number } => send_numbers("removed", &[u64::from(*number)], out),
+        Reply::Stored { number } => send_numbers("stored", &[*number as u64], out),
+        Reply::Removed { number } => send_numbers("removed", &[*number as u64], out),
         Reply::Present { at } => send_position("present", *at, out),
         Reply::Absent { at } => send_position("absent", *at, out),
-        Reply::Full { limit } => send_numbers("full", &[u64::from(*limit)], out),
-        Reply::NoPages { limit } => send_numbers("nopages", &[u64::from(*limit)], out),
+        Reply::Full { limit } => send_numbers("full", &[*limit as u64], out),
+        Reply::NoPages { limit } => send_numbers("nopages", &[*limit as u64], out),
         Reply::Memory => send_numbers("memory", &[], out),
         Reply::Range {
             at,
@@ -80,10 +83,10 @@ fn send_range<S: Sink>(
         (number_line (codes "range") (at.updates ∷ at.splits ∷ length rows.now ∷ cells ∷ distances ∷ []) ++ row_lines rows.now) }
 {
     let numbers = [
-        u64::from(at.updates),
-        u64::from(at.splits),
+        at.updates as u64,
+        at.splits as u64,
         rows.len() as u64,
-        u64::from(cells),
+        cells as u64,
         distances,
     ];
     send_numbers("range", &numbers, out)?;
@@ -100,10 +103,10 @@ fn send_nearest<S: Sink>(
         (number_line (codes "nearest") (at.updates ∷ at.splits ∷ length rows.now ∷ cells ∷ []) ++ row_lines rows.now) }
 {
     let numbers = [
-        u64::from(at.updates),
-        u64::from(at.splits),
+        at.updates as u64,
+        at.splits as u64,
         rows.len() as u64,
-        u64::from(cells),
+        cells as u64,
     ];
     send_numbers("nearest", &numbers, out)?;
     send_rows(rows, out)
@@ -118,11 +121,7 @@ fn send_replies<S: Sink>(replies: &Replies, out: &mut S) -> Result<(), SinkFaile
     Ok(())
 }
 
-fn send_session<S: Sink>(
-    number: usize,
-    replies: &Replies,
-    out: &mut S,
-) -> Result<(), SinkFailed>
+fn send_session<S: Sink>(number: usize, replies: &Replies, out: &mut S) -> Result<(), SinkFailed>
     ensures { Sends (S.written out.old) (S.faults out.old) result (S.written out.new) (S.faults out.new)
         (number_line (codes "session") (number ∷ []) ++ flat_map reply_lines replies.now) }
 {
@@ -140,7 +139,8 @@ fn send_sessions<S: Sink>(sessions: &Transcript, out: &mut S) -> Result<(), Sink
 }
 
 fn prefix_text(prefix: &Prefix) -> ArrayString<30>
-    ensures { result.bytes ≡ prefix_text prefix.now }
+    ensures text { result.bytes ≡ prefix_text prefix.now }
+    ensures short { length result.bytes ≤ 30 }
 {
     let mut text = ArrayString::new();
     let Some((first, others)) = prefix.as_slice().split_first() else {
@@ -148,11 +148,20 @@ fn prefix_text(prefix: &Prefix) -> ArrayString<30>
         return text;
     };
     text.push_str(Buffer::new().format(*first));
-    for pivot in others {
+    push_pivots(&mut text, others);
+    text
+}
+
+fn push_pivots(text: &mut ArrayString<30>, pivots: &[u8])
+    requires first { length text.old.bytes ≤ 3 }
+    requires few { length pivots.now ≤ 5 }
+    ensures text { text.new.bytes ≡ text.old.bytes ++ flat_map (λ pivot. 46 ∷ decimal pivot) pivots.now }
+    ensures short { length text.new.bytes ≤ 30 }
+{
+    for pivot in pivots {
         text.push_str(".");
         text.push_str(Buffer::new().format(*pivot));
     }
-    text
 }
 
 fn send_insert<S: Sink>(
@@ -166,13 +175,30 @@ fn send_insert<S: Sink>(
         (line (codes "insert") (decimal session ∷ decimal op ∷ decimal id ∷ map signed_decimal vector.now)) }
 {
     let mut line = Line::new("insert");
-    line.number(u64::from(session));
-    line.number(u64::from(op));
+    line.number(session as u64);
+    line.number(op as u64);
     line.number(id);
     for coordinate in vector.as_slice() {
         line.coordinate(*coordinate);
     }
     line.send(out)
+}
+
+fn send_update<S: Sink>(
+    session: u32,
+    op: u32,
+    update: &Update,
+    out: &mut S,
+) -> Result<(), SinkFailed>
+    ensures { Sends (S.written out.old) (S.faults out.old) result (S.written out.new) (S.faults out.new) (event_line (LogEvent.Update session op update.now)) }
+{
+    match update {
+        Update::Insert { id, vector } => send_insert(session, op, id.get(), vector, out),
+        Update::Delete { id } => {
+            let numbers = [session as u64, op as u64, id.get()];
+            send_numbers("delete", &numbers, out)
+        }
+    }
 }
 
 fn send_event<S: Sink>(event: &LogEvent, out: &mut S) -> Result<(), SinkFailed>
@@ -182,13 +208,8 @@ fn send_event<S: Sink>(event: &LogEvent, out: &mut S) -> Result<(), SinkFailed>
         LogEvent::Update {
             session,
             op,
-            update: Update::Insert { id, vector },
-        } => send_insert(*session, *op, id.get(), vector, out),
-        LogEvent::Update {
-            session,
-            op,
-            update: Update::Delete { id },
-        } => send_numbers("delete", &[u64::from(*session), u64::from(*op), id.get()], out),
+            update,
+        } => send_update(*session, *op, update, out),
         LogEvent::Split { prefix } => {
             let mut line = Line::new("split");
             line.field(prefix_text(prefix).as_str());
@@ -230,7 +251,11 @@ fn send_history<S: Sink>(log: &Log, out: &mut S) -> Result<(), SinkFailed>
 fn send_leaf<S: Sink>(leaf: &Leaf, out: &mut S) -> Result<(), SinkFailed>
     ensures { Sends (S.written out.old) (S.faults out.old) result (S.written out.new) (S.faults out.new) (leaf_line leaf.now) }
 {
-    send_numbers(prefix_text(&leaf.prefix).as_str(), &[u64::from(leaf.count)], out)
+    send_numbers(
+        prefix_text(&leaf.prefix).as_str(),
+        &[leaf.count as u64],
+        out,
+    )
 }
 
 fn send_leaves<S: Sink>(cells: &Leaves, out: &mut S) -> Result<(), SinkFailed>
@@ -259,7 +284,7 @@ fn send_totals<S: Sink>(
         (number_line (codes "entries") (entries ∷ []) ++ number_line (codes "pages") (allotted ∷ limit ∷ [])) }
 {
     send_numbers("entries", &[entries], out)?;
-    send_numbers("pages", &[u64::from(allotted), u64::from(limit)], out)
+    send_numbers("pages", &[allotted as u64, limit as u64], out)
 }
 
 /// Sends the transcript. It takes no memory.

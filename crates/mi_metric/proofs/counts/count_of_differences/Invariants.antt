@@ -1,0 +1,7 @@
+use Rattle.std.proofs.Common.{◌≡◌, ◌+◌}
+use Rattle.mi_base.specs.Space.{count_of_differences}
+use Rattle.mi_metric.proofs.counts.count_of_differences.Given as goal
+
+-- the count so far and that of the rest are the whole
+abbrev pub invariant-loop-x : goal.invariant-loop-x
+invariant-loop-x l = l.count + count_of_differences l.x-iterator.a.rest.now l.x-iterator.b.rest.now ≡ count_of_differences l.a l.b

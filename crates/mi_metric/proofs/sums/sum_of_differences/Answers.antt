@@ -1,0 +1,12 @@
+use Rattle.std.proofs.Common.{inl, inr, arith}
+use Rattle.mi_metric.proofs.SpentLemmas.{sum_spent_left, sum_spent_right}
+use Rattle.mi_metric.proofs.sums.sum_of_differences.Goals as goal
+
+pub returns : goal.returns
+returns c =
+    let a = c.loop-x.x-iterator.a.rest.now in
+    let b = c.loop-x.x-iterator.b.rest.now in
+    elim c.in-None.ensures.steps [
+      | inl spent ↦ omega (arith, sum_spent_left a b spent.1.0)
+      | inr spent ↦ omega (arith, sum_spent_right a b spent.1.0)
+    ]

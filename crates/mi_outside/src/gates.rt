@@ -1,0 +1,28 @@
+//! The gate that an actor passes between two sections.
+
+/// Where an actor stands, and in the how manyth operation of its script, from 0.
+#[derive(Clone, Copy, Debug, PartialEq, Eq)]
+pub enum GatePoint {
+    Begin { op: u32 },
+    Section { op: u32 },
+    End { op: u32 },
+}
+
+/// It is passed between sections and does nothing to the index.
+pub trait Gate: Sync {
+    fn pass(&self, actor: u32, point: GatePoint);
+}
+
+/// The gate that holds nobody.
+#[derive(Clone, Copy, Debug, PartialEq, Eq)]
+pub struct OpenGate;
+
+impl OpenGate {
+    pub fn new() -> OpenGate {
+        OpenGate
+    }
+}
+
+impl Gate for OpenGate {
+    fn pass(&self, _actor: u32, _point: GatePoint) {}
+}

@@ -1,0 +1,11 @@
+use Rattle.std.proofs.Common.{◌≡◌, Ok, take}
+use Rattle.std.specs.List.{flat_map}
+use Rattle.mi_outside.specs.Outside.{Sends}
+use Rattle.mi_print.specs.Render.{reply_lines}
+use Rattle.mi_print.proofs.transcript.send_replies.Given as goal
+
+-- the lines of the items so far were sent
+abbrev pub invariant-loop-reply : goal.invariant-loop-reply
+invariant-loop-reply g l =
+    Sends (g.S.Sink.written l.fn.out) (g.S.Sink.faults l.fn.out) (Ok tt) (g.S.Sink.written l.out) (g.S.Sink.faults l.out) (flat_map reply_lines (take l.reply-index l.reply-items))
+    × (l.reply-items ≡ l.initial.reply-items)

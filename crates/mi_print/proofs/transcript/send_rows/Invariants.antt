@@ -1,0 +1,11 @@
+use Rattle.std.proofs.Common.{◌≡◌, Ok, take}
+use Rattle.std.specs.List.{flat_map}
+use Rattle.mi_outside.specs.Outside.{Sends}
+use Rattle.mi_print.specs.Render.{row_line}
+use Rattle.mi_print.proofs.transcript.send_rows.Given as goal
+
+-- the lines of the items so far were sent
+abbrev pub invariant-loop-row : goal.invariant-loop-row
+invariant-loop-row g l =
+    Sends (g.S.Sink.written l.fn.out) (g.S.Sink.faults l.fn.out) (Ok tt) (g.S.Sink.written l.out) (g.S.Sink.faults l.out) (flat_map row_line (take l.row-index l.row-items))
+    × (l.row-items ≡ l.initial.row-items)

@@ -1,0 +1,23 @@
+use Rattle.std.proofs.Common.{refl, ap, sym, ◌∙◌, ◌++◌}
+use Rattle.std.specs.Prelude.{[], ◌∷◌, codes, length}
+use Rattle.mi_print.specs.Render.{number_line}
+use Rattle.mi_outside.proofs.SendingLemmas.{sends_ended, sends_then_is}
+use Rattle.mi_print.proofs.transcript.send_totals.Goals as goal
+
+pub returns-in_err-send_numbers : goal.returns-in_err-send_numbers
+returns-in_err-send_numbers g c =
+    sends_ended _ c.from_residual.result
+    (number_line (codes "entries") (c.args.entries ∷ []))
+    (number_line (codes "pages") (c.args.allotted ∷ c.args.limit ∷ []))
+    _ c.from_residual.ensures.1
+    (refl)
+    c.in_err-send_numbers.ensures
+
+pub returns : goal.returns
+returns g c =
+    sends_then_is
+    (number_line (codes "entries") (c.args.entries ∷ []))
+    (number_line (codes "pages") (c.args.allotted ∷ c.args.limit ∷ []))
+    _
+    (refl)
+    c.in_ok-send_numbers.ensures c.send_numbers-2.ensures
