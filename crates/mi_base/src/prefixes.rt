@@ -1,5 +1,5 @@
 //! The names of cells.
-ghost use Rattle.std.specs.Prelude.{◌≡◌, ◌<◌, ◌==◌, Some, length, IfSome, IfNone, IsTrue, slice_get, false};
+ghost use Rattle.std.specs.Prelude.{◌≡◌, ◌<◌, ◌==◌, Some, length, IfSome, IfNone, IsTrue, slice_get, false, []};
 ghost use Rattle.mi_base.specs.Prefixes.{is_prefix};
 
 use arrayvec::ArrayVec;
@@ -23,6 +23,15 @@ impl Model for Prefix {
 }
 
 impl Prefix {
+    /// The prefix of no pivots, which each permutation begins with.
+    pub fn empty() -> Prefix
+        ensures { result ≡ [] }
+    {
+        Prefix {
+            pivots: ArrayVec::new(),
+        }
+    }
+
     /// None exactly where there are more than 6 items, an item above 31, or a repeat. It takes no memory.
     pub fn new(items: &[u8]) -> Option<Prefix>
         ensures some { IfSome result (λ p. (p ≡ items.now) × IsTrue (is_prefix items.now)) }

@@ -1,1 +1,4 @@
+pub mod Contents
+pub mod Folders
+pub mod Kept
 pub mod Outside

@@ -1,6 +1,7 @@
 //! The gate that an actor passes between two sections.
 
-/// Where an actor stands, and in the how manyth operation of its script, from 0.
+/// Where an actor stands: before the first, between two or after the last of the sections of its
+/// operation `op`, which counts from 1.
 #[derive(Clone, Copy, Debug, PartialEq, Eq)]
 pub enum GatePoint {
     Begin { op: u32 },

@@ -28,3 +28,9 @@ updates_after n y = n
 abbrev pub InTurn : ℕ → List Reply → Type 0
 InTurn n [] = Unit {0}
 InTurn n (y ∷ ys) = BeganAt n y × InTurn (updates_after n y) ys
+
+-- the same of the replies to one script that runs alone
+abbrev pub AloneInTurn : List (List Reply) → Type 0
+AloneInTurn [] = ⊥
+AloneInTurn (replies ∷ []) = InTurn 0 replies
+AloneInTurn (replies ∷ others ∷ more) = ⊥

@@ -1,0 +1,137 @@
+-- The settings in a file.
+use Rattle.std.specs.Prelude.{◌≡◌, ℕ, ◌+◌, ◌==◌, ◌&&◌, ◌≤◌, if◌then◌else◌, List, [], ◌∷◌, length, drop, bytes_eq, codes, Bool, false, Result, Ok, Err, nat_le}
+use Rattle.mi_base.specs.declared.settings.MetricKind.{MetricKind}
+use Rattle.mi_base.specs.declared.settings.MetricKind.TheVariants.{L1, Max, Hamming, Table}
+use Rattle.mi_base.specs.Configuration.{Configuration, HasItsRows, IsTable}
+use Rattle.mi_input.specs.declared.faults.Reason.{Reason}
+use Rattle.mi_input.specs.declared.faults.Reason.TheVariants.{Word, Fields, Unbuilt}
+use Rattle.mi_input.specs.declared.settings.Measure.{Measure}
+use Rattle.mi_input.specs.declared.settings.Sizes.{Sizes}
+use Rattle.mi_input.specs.Faults.{Fault, ◌>>=◌, at_record}
+use Rattle.mi_input.specs.Numbers.{count_in}
+use Rattle.mi_input.specs.Records.{Place, begins_with, each, ending, field_in, limited, reading, start}
+
+-- the metric of this name
+abbrev pub kind_in : List ℕ → Result MetricKind Reason
+kind_in name =
+    if bytes_eq name (codes "l1") then Ok L1
+    else if bytes_eq name (codes "max") then Ok Max
+    else if bytes_eq name (codes "hamming") then Ok Hamming
+    else if bytes_eq name (codes "table") then Ok Table
+    else Err Word
+
+-- metric,NAME: an unknown name is no word, whatever follows it
+unfoldable pub metric_in : List (List ℕ) → Result MetricKind Reason
+metric_in fields =
+    if begins_with (codes "metric") fields then
+      (if length fields == 1 then Err Fields
+      else (do
+        kind ← kind_in (field_in 1 fields)
+        if length fields == 2 then Ok kind else Err Fields))
+    else Err Word
+
+-- WORD,N
+unfoldable pub setting_in : List ℕ → ℕ → ℕ → List (List ℕ) → Result ℕ Reason
+setting_in word least most fields =
+    if begins_with word fields then (if length fields == 2 then count_in least most (field_in 1 fields) else Err Fields)
+    else Err Word
+
+-- the greatest number of coordinates
+abbrev pub most_dims : MetricKind → ℕ
+most_dims Table = 1
+most_dims L1 = 64
+most_dims Max = 64
+most_dims Hamming = 64
+
+-- 1 to 128 values
+unfoldable pub values_in : List (List ℕ) → Result (List ℕ) Reason
+values_in fields =
+    if nat_le 1 (length fields) && nat_le (length fields) 128 then each (count_in 0 128000000) fields
+    else Err Fields
+
+-- row,VALUES: the table's row of this number, from 1
+unfoldable pub row_in : ℕ → List (List ℕ) → Result (List ℕ) Reason
+row_in number fields =
+    if begins_with (codes "row") fields then limited 128 number (values_in (drop 1 fields))
+    else Err Word
+
+-- the rows from a place on, where so many stand before it, up to the first record that is none
+unfoldable pub rows_from : ℕ → ℕ → List (List (List ℕ)) → Result (List (List ℕ) × Place) Fault
+rows_from before number [] = Ok ([], record { number = number; records = [] })
+rows_from before number (fields ∷ rest) =
+    if begins_with (codes "row") fields then (do
+      row ← at_record number (row_in (before + 1) fields)
+      more ← rows_from (before + 1) (number + 1) rest
+      Ok (row ∷ more.0, more.1))
+    else Ok ([], record { number = number; records = fields ∷ rest })
+
+-- one row at least
+unfoldable pub table_in : Place → Result (List (List ℕ) × Place) Fault
+table_in place = do
+  first ← reading (row_in 1) place
+  more ← rows_from 1 first.1.number first.1.records
+  Ok (first.0 ∷ more.0, more.1)
+
+-- rows stand under a table alone
+abbrev pub rows_in : MetricKind → Place → Result (List (List ℕ) × Place) Fault
+rows_in Table place = table_in place
+rows_in L1 place = Ok ([], place)
+rows_in Max place = Ok ([], place)
+rows_in Hamming place = Ok ([], place)
+
+-- metric,NAME / dims,N / row,VALUES ..
+unfoldable pub measure_in : Place → Result (Measure × Place) Fault
+measure_in place = do
+  metric ← reading metric_in place
+  dims ← reading (setting_in (codes "dims") 1 (most_dims metric.0)) metric.1
+  rows ← rows_in metric.0 dims.1
+  Ok (record { metric = metric.0; dims = dims.0; rows = rows.0 }, rows.1)
+
+-- levels,N: 0, since there are no pivots; pivots can't be read yet
+unfoldable pub levels_in : List (List ℕ) → Result ℕ Reason
+levels_in fields =
+    if begins_with (codes "pivot") fields then Err Unbuilt
+    else setting_in (codes "levels") 0 0 fields
+
+-- levels,N / cell,N / updates,N / pages,N
+unfoldable pub sizes_in : Place → Result (Sizes × Place) Fault
+sizes_in place = do
+  levels ← reading levels_in place
+  cell ← reading (setting_in (codes "cell") 1 10000) levels.1
+  updates ← reading (setting_in (codes "updates") 1 200000) cell.1
+  pages ← reading (setting_in (codes "pages") 1 200000) updates.1
+  Ok (record { levels = levels.0; cell = cell.0; updates = updates.0; pages = pages.0 }, pages.1)
+
+-- the settings in a file of these bytes, or its first fault
+unfoldable pub settings_in : List ℕ → Result Configuration Fault
+settings_in bytes = do
+  measure ← measure_in (start bytes)
+  sizes ← sizes_in measure.1
+  ending sizes.1 (record {
+    metric = measure.0.metric;
+    dims = measure.0.dims;
+    rows = measure.0.rows;
+    pivots = [];
+    levels = sizes.0.levels;
+    cell = sizes.0.cell;
+    updates = sizes.0.updates;
+    pages = sizes.0.pages;
+  })
+
+-- what the settings want of the first part, and of the second
+pub record IsMeasure (measure : Measure) : Type 0 where
+  pub dims : (1 ≤ measure.dims) × (measure.dims ≤ 64)
+  pub rows : HasItsRows measure.metric measure.dims measure.rows
+
+pub record AreSizes (sizes : Sizes) : Type 0 where
+  pub levels : sizes.levels ≡ 0
+  pub cell : (1 ≤ sizes.cell) × (sizes.cell ≤ 10000)
+  pub updates : (1 ≤ sizes.updates) × (sizes.updates ≤ 200000)
+  pub pages : (1 ≤ sizes.pages) × (sizes.pages ≤ 200000)
+
+-- the same of the rows alone
+abbrev pub AreItsRows : MetricKind → List (List ℕ) → Type 0
+AreItsRows Table rows = IsTable rows
+AreItsRows L1 rows = rows ≡ []
+AreItsRows Max rows = rows ≡ []
+AreItsRows Hamming rows = rows ≡ []

@@ -1,0 +1,15 @@
+//! Distance tables, and the metric of given settings.
+#![tactic(auto)]
+
+mod any;
+mod checks;
+mod copies;
+mod faults;
+mod tables;
+
+pub use any::AnyMetric;
+pub use faults::TableFault;
+pub use tables::TableMetric;
+
+#[cfg(test)]
+mod tests;

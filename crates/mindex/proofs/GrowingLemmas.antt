@@ -1,0 +1,84 @@
+-- What is right in a log is right in one that goes on.
+use Rattle.std.proofs.Common.{◌≡◌, ℕ, ◌+◌, ◌-◌, ◌<◌, ◌≤◌, List, [], ◌∷◌, ◌++◌, map, length, take, Bool, true, false, Some, refl, sym, ap, ◌∙◌, subst, arith, length-append, append-nil}
+use Rattle.std.specs.Prelude.{ℤ, slice_get}
+use Rattle.std.proofs.lemmas.List.{take-append-le}
+use Rattle.std.proofs.lemmas.Option.{slice_get_within, slice_get_read, slice_get-get_or}
+use Rattle.std.proofs.Common.{get_or}
+use Rattle.std.proofs.Math.ListN.{get_or-append}
+use Rattle.mi_base.specs.declared.records.LogEvent.{LogEvent}
+use Rattle.mi_base.specs.declared.records.Update.{Update}
+use Rattle.mi_base.specs.declared.records.Op.{Op}
+use Rattle.mi_base.specs.declared.records.Op.TheVariants.{Insert, Delete, Range}
+use Rattle.mi_base.specs.declared.records.Reply.{Reply}
+use Rattle.mi_base.specs.declared.records.Reply.TheVariants as reply
+use Rattle.mi_base.specs.declared.records.Position.{Position}
+use Rattle.mi_base.specs.declared.records.Row.{Row}
+use Rattle.mi_base.specs.Configuration.{Configuration, metric_space}
+use Rattle.mi_base.specs.History.{Entered, entered, updates_of, is_live, events_at, at_position, IsPosition, range_scan}
+use Rattle.mi_base.proofs.HistoryLemmas.{entered-append, updates_of-append}
+use Rattle.mi_print.specs.Catalog.{opened, candidates}
+use Rattle.mi_print.specs.Right.{Right, IsUpdateNumber, IsRange, before, history_at}
+use Rattle.mindex.proofs.AnsweringLemmas.{length-updates_of}
+
+-- a prefix of a log is the same prefix of one that goes on
+at_grows : (log more : List LogEvent) (p : Position) → IsPosition log p → at_position (log ++ more) p ≡ at_position log p
+at_grows log more p is = take-append-le (events_at p) log more is.within
+
+position_grows : (log more : List LogEvent) (p : Position) → IsPosition log p → IsPosition (log ++ more) p
+position_grows log more p is = record {
+  within = omega (arith, is.within, length-append log more);
+  updates = ap (λ l. length (updates_of l)) (at_grows log more p is) ∙ is.updates;
+}
+
+slice_get-append : {X : Type 0} (xs ys : List X) (i : ℕ) (x : X) → slice_get xs i ≡ Some x → slice_get (xs ++ ys) i ≡ Some x
+slice_get-append xs ys i x h =
+    let within : i < length xs = slice_get_within xs i x h in
+    let longer : i < length (xs ++ ys) = omega (arith, within, length-append xs ys) in
+    let there : Some (get_or xs i x) ≡ Some x = sym (slice_get-get_or xs i x within) ∙ h in
+    let same : get_or xs i x ≡ x = cc in
+    slice_get_read (xs ++ ys) (length (xs ++ ys)) i x refl longer (sym (get_or-append xs ys x i within ∙ same))
+
+number_grows : (log more : List LogEvent) (n : ℕ) (e : Entered) → IsUpdateNumber log n e → IsUpdateNumber (log ++ more) n e
+number_grows log more n e is = record {
+  counted = is.counted;
+  stands = ap (λ es. slice_get es (n - 1)) (entered-append log more) ∙ slice_get-append (entered log) (entered more) (n - 1) e is.stands;
+}
+
+before_grows : (log more : List LogEvent) (n : ℕ) (e : Entered) → IsUpdateNumber log n e → before n (log ++ more) ≡ before n log
+before_grows log more n e is =
+    let within : n - 1 ≤ length (updates_of log) = omega (arith, slice_get_within (entered log) (n - 1) e is.stands, length-updates_of log) in
+    ap (take (n - 1)) (updates_of-append log more) ∙ take-append-le (n - 1) (updates_of log) (updates_of more) within
+
+none_more : {X : Type 0} (xs : List X) → length xs ≡ 0 → xs ≡ []
+none_more [] h = refl
+none_more (x ∷ xs) h = absurd (omega arith)
+
+-- a log that has all its updates gains none
+full_stays : (c : Configuration) (log more : List LogEvent) → length (updates_of log) ≡ c.updates → length (updates_of (log ++ more)) ≤ c.updates → updates_of (log ++ more) ≡ updates_of log
+full_stays c log more full few =
+    let none : updates_of more ≡ [] = none_more (updates_of more) (omega (arith, full, few, ap length (updates_of-append log more), length-append (updates_of log) (updates_of more))) in
+    updates_of-append log more ∙ ap (λ us. updates_of log ++ us) none ∙ append-nil (updates_of log)
+
+range_grows : (c : Configuration) (log more : List LogEvent) (radius : ℕ) (query : List ℤ) (p : Position) (rows : List Row) (cells distances : ℕ)
+    → IsRange c log radius query p rows cells distances → IsRange c (log ++ more) radius query p rows cells distances
+range_grows c log more radius query p rows cells distances h =
+    let same = sym (at_grows log more p h.position) in
+    record {
+      position = position_grows log more p h.position;
+      rows_are = h.rows_are ∙ ap (λ l. range_scan (metric_space c) (updates_of l) query radius) same;
+      cells_are = h.cells_are ∙ ap opened same;
+      distances_are = h.distances_are ∙ ap (λ l. length c.pivots + length (candidates l)) same;
+    }
+
+pub right_grows : (c : Configuration) (log more : List LogEvent) (session op : ℕ) (o : Op) (y : Reply)
+    → length (updates_of (log ++ more)) ≤ c.updates → Right c log session op o y → Right c (log ++ more) session op o y
+right_grows c log more session op (Insert id v) (reply.Stored n) few h = (number_grows log more n _ h.0, ap (is_live id) (before_grows log more n _ h.0) ∙ h.1)
+right_grows c log more session op (Delete id) (reply.Removed n) few h = (number_grows log more n _ h.0, ap (is_live id) (before_grows log more n _ h.0) ∙ h.1)
+right_grows c log more session op (Insert id v) (reply.Present p) few h = (position_grows log more p h.0, ap (λ l. is_live id (updates_of l)) (at_grows log more p h.0) ∙ h.1)
+right_grows c log more session op (Delete id) (reply.Absent p) few h = (position_grows log more p h.0, ap (λ l. is_live id (updates_of l)) (at_grows log more p h.0) ∙ h.1)
+right_grows c log more session op (Insert id v) (reply.Full limit) few h =
+    let same = full_stays c log more (h.1 ∙ h.0) few in (h.0, ap length same ∙ h.1, ap (is_live id) same ∙ h.2)
+right_grows c log more session op (Delete id) (reply.Full limit) few h =
+    let same = full_stays c log more (h.1 ∙ h.0) few in (h.0, ap length same ∙ h.1, ap (is_live id) same ∙ h.2)
+right_grows c log more session op (Range radius query) (reply.Range p rows cells distances) few h = range_grows c log more radius query p rows cells distances h
+right_grows c log more session op o y few h = h

@@ -1,0 +1,5 @@
+pub mod Answering
+pub mod Calls
+pub mod Inputs
+pub mod Outcomes
+pub mod Plain

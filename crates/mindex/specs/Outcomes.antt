@@ -1,0 +1,29 @@
+-- What a run of one script leaves.
+use Rattle.std.specs.Prelude.{◌≡◌, ℕ, Bool, true, false, List, [], ◌∷◌, length}
+use Rattle.std.specs.List.{list_any}
+use Rattle.mi_base.specs.declared.records.Op.{Op}
+use Rattle.mi_base.specs.declared.records.Reply.{Reply}
+use Rattle.mi_base.specs.declared.records.Reply.TheVariants.{Memory}
+use Rattle.mi_base.specs.Configuration.{Configuration}
+use Rattle.mi_base.specs.History.{live, updates_of}
+use Rattle.mi_print.specs.declared.outcome.Outcome.{Outcome}
+use Rattle.mi_print.specs.Catalog.{catalog}
+use Rattle.mi_print.specs.Legal.{Legal}
+use Rattle.mi_print.specs.InTurn.{AloneInTurn}
+
+abbrev pub is_memory : Reply → Bool
+is_memory Memory = true
+is_memory y = false
+
+-- an answer is missing for want of memory
+abbrev pub has_memory : List (List Reply) → Bool
+has_memory replies = list_any (λ ys. list_any is_memory ys) replies
+
+pub record IsOutcomeOf (c : Configuration) (script : List Op) (o : Outcome) : Type 0 where
+  pub legal : Legal c (script ∷ []) o.replies o.log
+  pub turns : AloneInTurn o.replies
+  pub cells_are : o.cells ≡ catalog o.log
+  pub entries_are : o.entries ≡ length (live (updates_of o.log))
+  pub one_page : o.allotted ≡ 1
+  pub limit_is : o.limit ≡ c.pages
+  pub short_is : o.short ≡ has_memory o.replies

@@ -1,0 +1,7 @@
+//! An exact similarity index in memory: replays scripts of updates and queries.
+#![tactic(auto)]
+
+mod plain;
+mod refusals;
+
+fn main() {}
