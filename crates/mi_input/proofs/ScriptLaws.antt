@@ -18,7 +18,7 @@ use Rattle.mi_input.specs.declared.vectors.Shape.{Shape}
 use Rattle.mi_input.specs.Faults.{Fault, ◌>>=◌, at_record}
 use Rattle.mi_input.specs.Numbers.{bounded, count_in, number_in, whole_in}
 use Rattle.mi_input.specs.Records.{each, field_in}
-use Rattle.mi_input.specs.Scripts.{delete_in, highest, id_in, insert_in, lowest, op_in, range_in, script_from, shape_of, vector_in}
+use Rattle.mi_input.specs.Scripts.{AreServed, IsServed, delete_in, highest, id_in, insert_in, lowest, op_in, range_in, script_from, shape_of, vector_in}
 use Rattle.mi_input.proofs.CaseLemmas.{and_true, at_record_ok, bind_ok, chosen, ok_same}
 use Rattle.mi_input.proofs.ScriptLemmas.{op_ok}
 use Rattle.mi_input.proofs.VectorLemmas.{between}
@@ -165,3 +165,48 @@ records_over c number (fields ∷ rest) ops within few h =
 pub script_over : (c : Configuration) (records : List (List (List ℕ))) (ops : List Op) → IsWithinLimits c → script_from (shape_of c) 1 records ≡ Ok ops
     → IsScriptOver (metric_space c) ops
 script_over c records ops within h = let r = records_over c 1 records ops within (lit≤ tt) h in record { few = omega (arith, r.0); each = r.1 }
+
+insert_served : (c : Configuration) (fields : List (List ℕ)) (op : Op) → insert_in (shape_of c) fields ≡ Ok op → IsServed op
+unfolding insert_in
+insert_served c fields op h = elim (chosen (length fields == c.dims + 2) _ (Err Fields) (Ok op) h) [
+  | inl full ↦
+      let (id, first, more) = bind_ok (id_in (field_in 1 fields)) (λ id. vector_in (shape_of c) (drop 2 fields) >>= λ v. Ok (Insert id v)) op full.1 in
+      let (v, second, e) = bind_ok (vector_in (shape_of c) (drop 2 fields)) (λ v. Ok (Insert id v)) op more in
+      rw (← ok_same (Insert id v) op e) tt
+  | inr other ↦ cc other.1
+  ]
+
+delete_served : (fields : List (List ℕ)) (op : Op) → delete_in fields ≡ Ok op → IsServed op
+unfolding delete_in
+delete_served fields op h = elim (chosen (length fields == 2) _ (Err Fields) (Ok op) h) [
+  | inl full ↦
+      let (id, first, e) = bind_ok (id_in (field_in 1 fields)) (λ id. Ok (Delete id)) op full.1 in
+      rw (← ok_same (Delete id) op e) tt
+  | inr other ↦ cc other.1
+  ]
+
+range_served : (c : Configuration) (fields : List (List ℕ)) (op : Op) → range_in (shape_of c) fields ≡ Ok op → IsServed op
+unfolding range_in
+range_served c fields op h = elim (chosen (length fields == c.dims + 2) _ (Err Fields) (Ok op) h) [
+  | inl full ↦
+      let (radius, first, more) = bind_ok (count_in 0 2147483647 (field_in 1 fields)) (λ radius. vector_in (shape_of c) (drop 2 fields) >>= λ v. Ok (Range radius v)) op full.1 in
+      let (v, second, e) = bind_ok (vector_in (shape_of c) (drop 2 fields)) (λ v. Ok (Range radius v)) op more in
+      rw (← ok_same (Range radius v) op e) tt
+  | inr other ↦ cc other.1
+  ]
+
+op_served : (c : Configuration) (number : ℕ) (fields : List (List ℕ)) (op : Op) → op_in (shape_of c) number fields ≡ Ok op → IsServed op
+op_served c number fields op h =
+    elim (op_ok (shape_of c) number fields op h).1 [
+      | inl inserts ↦ insert_served c fields op inserts
+      | inr others ↦ elim others [ inl deletes ↦ delete_served fields op deletes | inr ranges ↦ range_served c fields op ranges ]
+    ]
+
+-- a script that was read has operations of the kinds that can be read
+pub script_served : (c : Configuration) (number : ℕ) (records : List (List (List ℕ))) (ops : List Op) → script_from (shape_of c) number records ≡ Ok ops → AreServed ops
+unfolding script_from
+script_served c number [] ops h = let e : [] ≡ ops = ok_same [] ops h in rw (← e) tt
+script_served c number (fields ∷ rest) ops h =
+    let (op, first, more) = bind_ok (at_record number (op_in (shape_of c) number fields)) (λ op. script_from (shape_of c) (number + 1) rest >>= λ ops. Ok (op ∷ ops)) ops h in
+    let (after, read, e) = bind_ok (script_from (shape_of c) (number + 1) rest) (λ (ops : List Op). Ok (op ∷ ops)) ops more in
+    rw (← ok_same (op ∷ after) ops e) (op_served c number fields op (at_record_ok number (op_in (shape_of c) number fields) op first), script_served c (number + 1) rest after read)

@@ -1,7 +1,8 @@
 -- The script in a file.
 use Rattle.std.specs.Prelude.{◌≡◌, ℕ, ℤ, pos, neg_ℤ, ◌+◌, ◌-◌, ◌^◌, ◌==◌, ◌≤◌, ◌≤ℤ◌, if◌then◌else◌, List, [], ◌∷◌, length, drop, codes, Result, Ok, Err}
+use Rattle.std.specs.List.{AllByRecursion}
 use Rattle.mi_base.specs.declared.records.Op.{Op}
-use Rattle.mi_base.specs.declared.records.Op.TheVariants.{Insert, Delete, Range}
+use Rattle.mi_base.specs.declared.records.Op.TheVariants.{Insert, Delete, Range, Nearest}
 use Rattle.mi_base.specs.declared.settings.MetricKind.{MetricKind}
 use Rattle.mi_base.specs.declared.settings.MetricKind.TheVariants.{L1, Max, Hamming, Table}
 use Rattle.mi_base.specs.Configuration.{Configuration}
@@ -90,3 +91,13 @@ pub record IsShape (shape : Shape) : Type 0 where
   pub few : shape.dims ≤ 64
   pub lowest : neg_ℤ (pos 1000000) ≤ℤ shape.lowest
   pub highest : shape.highest ≤ℤ pos 1000000
+
+-- an operation of a kind that can be read
+abbrev pub IsServed : Op → Type 0
+IsServed (Insert id vector) = Unit {0}
+IsServed (Delete id) = Unit {0}
+IsServed (Range radius query) = Unit {0}
+IsServed (Nearest count query) = ⊥
+
+abbrev pub AreServed : List Op → Type 0
+AreServed ops = AllByRecursion IsServed ops

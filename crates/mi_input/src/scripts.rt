@@ -4,7 +4,7 @@ ghost use Rattle.csv.specs.Records.{fields_of};
 ghost use Rattle.mi_base.specs.Configuration.{metric_space};
 ghost use Rattle.mi_base.specs.Scripts.{IsScriptOver};
 ghost use Rattle.mi_input.specs.Faults.{Gives, IsFaultOf};
-ghost use Rattle.mi_input.specs.Scripts.{IsShape, delete_in, id_in, insert_in, op_in, range_in, script_from, script_in};
+ghost use Rattle.mi_input.specs.Scripts.{AreServed, IsShape, delete_in, id_in, insert_in, op_in, range_in, script_from, script_in};
 ghost use Rattle.mi_input.specs.Records.{records_in};
 
 use crate::faults::{InputFault, Reason};
@@ -115,6 +115,7 @@ fn script_of(alloc: Global, bytes: &[u8], shape: &Shape) -> Result<Script, Input
 pub fn read_script(alloc: Global, bytes: &[u8], settings: &Settings) -> Result<Script, InputFault>
     ensures ok { IfOk result (λ script. script_in settings.now bytes.now ≡ Ok script) }
     ensures script { IfOk result (IsScriptOver (metric_space settings.now)) }
+    ensures served { IfOk result AreServed }
     ensures err { IfErr result (IsFaultOf (script_in settings.now bytes.now)) }
 {
     script_of(alloc, bytes, &Shape::of(settings))

@@ -1,5 +1,5 @@
 //! Settings.
-ghost use Rattle.std.specs.Prelude.{◌≡◌, ◌+◌, ◌<◌, ◌≤◌, ◌^◌, codes, Ok, IfOk, IfErr, OnOk};
+ghost use Rattle.std.specs.Prelude.{◌≡◌, ◌+◌, ◌<◌, ◌≤◌, ◌^◌, codes, [], Ok, IfOk, IfErr, OnOk};
 ghost use Rattle.csv.specs.Records.{fields_of};
 ghost use Rattle.mi_input.specs.Faults.{Gives, IsFaultOf};
 ghost use Rattle.mi_input.specs.Records.{reading};
@@ -193,6 +193,7 @@ fn read_sizes(records: &mut Records) -> Result<Sizes, InputFault>
 #[tactic(auto, unfolding(crate::specs::Settings::settings_in))]
 pub fn read_settings(alloc: Global, bytes: &[u8]) -> Result<Settings, InputFault>
     ensures ok { IfOk result (λ settings. settings_in bytes.now ≡ Ok settings) }
+    ensures pivots { IfOk result (λ settings. settings.pivots ≡ []) }
     ensures err { IfErr result (IsFaultOf (settings_in bytes.now)) }
 {
     let mut records = Records::new(alloc, bytes)?;

@@ -7,4 +7,4 @@ mod transcript;
 
 pub use line::Line;
 pub use outcome::{Leaf, Leaves, Outcome};
-pub use transcript::render;
+pub use transcript::{render, send_numbers};

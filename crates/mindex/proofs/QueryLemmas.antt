@@ -21,7 +21,7 @@ pub hits_answered : (m m' : MetricSpace) (query : List ℤ) (radius : ℕ) (us :
     → answer ≡ sorted row_cmp rows → SameElements (map object_in entries) (live us) → answer ≡ range_scan m' us query radius
 hits_answered m m' query radius us entries begun left rows answer space start over kept is same =
     let all : rows ≡ hits m query radius (map object_in entries) =
-      sym (append-nil rows) ∙ ap (λ l. rows ++ hits m query radius (map object_in l)) (sym over) ∙ kept ∙ ap (λ l. hits m query radius (map object_in l)) start in
+    sym (append-nil rows) ∙ ap (λ l. rows ++ hits m query radius (map object_in l)) (sym over) ∙ kept ∙ ap (λ l. hits m query radius (map object_in l)) start in
     is ∙ ap (sorted row_cmp) all ∙ sorted-hits m us query radius (map object_in entries) same ∙ ap (λ x. range_scan x us query radius) space
 
 -- what fits among the live objects fits among the entries

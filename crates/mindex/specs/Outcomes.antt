@@ -1,7 +1,8 @@
 -- What a run of one script leaves.
-use Rattle.std.specs.Prelude.{◌≡◌, ℕ, Bool, true, false, List, [], ◌∷◌, length}
+use Rattle.std.specs.Prelude.{◌≡◌, ℕ, ◌≤◌, Bool, true, false, List, [], ◌∷◌, length}
 use Rattle.std.specs.List.{list_any}
 use Rattle.mi_base.specs.declared.records.Op.{Op}
+use Rattle.mi_base.specs.declared.records.LogEvent.{LogEvent}
 use Rattle.mi_base.specs.declared.records.Reply.{Reply}
 use Rattle.mi_base.specs.declared.records.Reply.TheVariants.{Memory}
 use Rattle.mi_base.specs.Configuration.{Configuration}
@@ -27,3 +28,15 @@ pub record IsOutcomeOf (c : Configuration) (script : List Op) (o : Outcome) : Ty
   pub one_page : o.allotted ≡ 1
   pub limit_is : o.limit ≡ c.pages
   pub short_is : o.short ≡ has_memory o.replies
+
+-- what is left of an index and the replies to one script
+pub record IsFinished (c : Configuration) (log : List LogEvent) (replies : List Reply) (o : Outcome) : Type 0 where
+  pub replies_are : o.replies ≡ replies ∷ []
+  pub log_is : o.log ≡ log
+  pub cells_are : o.cells ≡ catalog log
+  pub entries_are : o.entries ≡ length (live (updates_of log))
+  pub one_page : o.allotted ≡ 1
+  pub limit_is : o.limit ≡ c.pages
+  pub short_is : o.short ≡ list_any is_memory replies
+  pub within : length log ≤ c.updates
+  pub updates_only : length (updates_of log) ≡ length log

@@ -3,5 +3,7 @@
 
 mod plain;
 mod refusals;
+mod running;
+mod texts;
 
 fn main() {}

@@ -248,6 +248,14 @@ impl<'a> Plain<'a> {
         Ok(cells)
     }
 
+    /// How many pages may be allotted.
+    pub fn page_limit(&self) -> u32
+        ensures { result ≡ self.now.settings.pages }
+    {
+        let settings = self.settings;
+        settings.pages
+    }
+
     /// The log, which ends the index.
     pub fn into_log(self) -> Log
         ensures { result ≡ self.entry.log }

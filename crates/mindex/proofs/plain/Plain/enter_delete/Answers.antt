@@ -31,6 +31,6 @@ invariant_of-self-2 c =
       updates_only = omega (arith, ap (λ l. length (updates_of l)) grown, length-gained log c.args.session c.args.op (update.Delete id), ap length grown, length-append log (e ∷ []), c.self.invariant.updates_only);
       few = omega (arith, room, same_log, same_limit, ap length grown, length-append log (e ∷ []), c.self.invariant.updates_only);
       same = subst (λ es. SameElements (map object_in es) (live (updates_of c.push.new.self))) (sym kept)
-        (subst (λ us. SameElements (map object_in (remove_entry (is_at (nat_cmp id)) entries)) (live us)) (sym history) (same_removed id entries (updates_of log) gone c.self.invariant.same));
+          (subst (λ us. SameElements (map object_in (remove_entry (is_at (nat_cmp id)) entries)) (live us)) (sym history) (same_removed id entries (updates_of log) gone c.self.invariant.same));
       hull_is = c.self.invariant.hull_is ∙ sym (ap hull_after history ∙ hull_deleted (updates_of log) id);
     }

@@ -25,7 +25,7 @@ invariant_of-self-in-Ok c =
     let history : updates_of c.push.new.self ≡ updates_of log ++ update.Insert id v ∷ [] = ap updates_of grown ∙ updates_of-append log (e ∷ []) in
     let absent : is_live id (updates_of log) ≡ false = ap (λ s. is_live id (updates_of s.log)) c.self.view_is ∙ c.requires.absent in
     let gone : lookup (is_at (nat_cmp id)) entries ≡ None =
-      absent_looked_up id entries (found id entries ∙ same_any (λ o. o.id == id) (map object_in entries) (live (updates_of log)) c.self.invariant.same ∙ absent) in
+    absent_looked_up id entries (found id entries ∙ same_any (λ o. o.id == id) (map object_in entries) (live (updates_of log)) c.self.invariant.same ∙ absent) in
     let kept : c.insert.new.self.entries ≡ insert_entry nat_cmp entries id v = c.in-Ok.ensures.entries ∙ ap (insert_entry nat_cmp entries id) c.copy-2.ensures in
     let room = c.requires.room in
     let same_log = ap (λ s. length (updates_of s.log)) c.self.view_is in
@@ -35,6 +35,6 @@ invariant_of-self-in-Ok c =
       updates_only = omega (arith, ap (λ l. length (updates_of l)) grown, length-gained log c.args.session c.args.op (update.Insert id v), ap length grown, length-append log (e ∷ []), c.self.invariant.updates_only);
       few = omega (arith, room, same_log, same_limit, ap length grown, length-append log (e ∷ []), c.self.invariant.updates_only);
       same = subst (λ es. SameElements (map object_in es) (live (updates_of c.push.new.self))) (sym kept)
-        (subst (λ us. SameElements (map object_in (insert_entry nat_cmp entries id v)) (live us)) (sym history) (same_inserted id v entries (updates_of log) gone c.self.invariant.same));
+          (subst (λ us. SameElements (map object_in (insert_entry nat_cmp entries id v)) (live us)) (sym history) (same_inserted id v entries (updates_of log) gone c.self.invariant.same));
       hull_is = sym (ap hull_after history ∙ hull_inserted (updates_of log) id v);
     }

@@ -12,7 +12,7 @@ loop-id-init g c =
     record {
       rows = rw c.new-rows.ensures refl;
       fit = entries_fit (g.M.Metric.space c.args.metric.now) (metric_space c.args.self.now.settings) c.self.inside.log c.self.inside.objects.entries c.into_iter-id-iterator.result
-        c.requires.space begun c.self.invariant.same (subst (λ s. AllFit (metric_space c.args.self.now.settings) s.log) (sym c.self.view_is) c.requires.fit);
+          c.requires.space begun c.self.invariant.same (subst (λ s. AllFit (metric_space c.args.self.now.settings) s.log) (sym c.self.view_is) c.requires.fit);
       ticks = refl;
     }
 
