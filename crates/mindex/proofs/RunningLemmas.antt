@@ -1,7 +1,9 @@
 -- Operations one after another make a legal outcome.
-use Rattle.std.proofs.Common.{◌≡◌, ℕ, zero, suc, ◌+◌, ◌-◌, ◌<◌, ◌≤◌, ◌==◌, List, [], ◌∷◌, ◌++◌, map, length, take, Bool, true, false, Some, refl, sym, ap, ◌∙◌, subst, arith, length-append, append-nil, append_assoc}
+use Rattle.std.proofs.Common.{◌≡◌, ℕ, zero, suc, ◌+◌, ◌-◌, ◌<◌, ◌≤◌, ◌==◌, ◌&&◌, ◌||◌, cond, not, List, [], ◌∷◌, ◌++◌, map, length, take, Bool, true, false, Some, refl, sym, ap, ◌∙◌, subst, arith, length-append, append-nil, append_assoc}
 use Rattle.std.specs.Prelude.{ℤ, IsTrue}
-use Rattle.std.specs.List.{AllByRecursion, filter, list_all}
+use Rattle.std.specs.List.{AllByRecursion, filter, list_all, list_any}
+use Rattle.std.proofs.lemmas.Bool.{and_parts}
+use Rattle.mi_base.specs.declared.records.Update.TheVariants as update
 use Rattle.mi_base.specs.declared.records.LogEvent.{LogEvent}
 use Rattle.mi_base.specs.declared.records.LogEvent.TheVariants as event
 use Rattle.mi_base.specs.declared.records.Op.{Op}
@@ -9,12 +11,15 @@ use Rattle.mi_base.specs.declared.records.Op.TheVariants.{Insert, Delete}
 use Rattle.mi_base.specs.declared.records.Reply.{Reply}
 use Rattle.mi_base.specs.declared.records.Reply.TheVariants.{Stored, Removed, Present, Absent, Range, Nearest}
 use Rattle.mi_base.specs.Configuration.{Configuration, metric_space}
-use Rattle.mi_base.specs.History.{Entered, entered, updates_of, events_at}
-use Rattle.mi_base.proofs.HistoryLemmas.{entered-append, updates_of-append}
+use Rattle.mi_base.specs.History.{Object, Entered, entered, updates_of, events_at, live}
+use Rattle.mi_print.specs.declared.outcome.Outcome.{Outcome}
+use Rattle.mi_print.specs.Catalog.{catalog}
+use Rattle.mindex.specs.Outcomes.{IsFinished, IsOutcomeOf, has_memory, is_memory}
+use Rattle.mi_base.proofs.HistoryLemmas.{entered-append, updates_of-append, live-append}
 use Rattle.mi_print.specs.Right.{Right}
 use Rattle.mi_print.specs.Legal.{MayFollow, EachMayFollow, LegalLog, EachRight, AllRight, accepted, accepted_in, AllEntered, events_to, reach, NeverFalls, Legal}
-use Rattle.mi_print.specs.InTurn.{place, BeganAt, updates_after, InTurn}
-use Rattle.mindex.specs.Answering.{Answers, Ran, event_of, gain}
+use Rattle.mi_print.specs.InTurn.{place, BeganAt, updates_after, InTurn, AloneInTurn}
+use Rattle.mindex.specs.Answering.{AllFit, Answers, Ran, event_of, gain}
 use Rattle.mindex.proofs.AnsweringLemmas.{length-updates_of}
 use Rattle.mindex.proofs.GrowingLemmas.{right_grows}
 
@@ -196,3 +201,50 @@ ran_legal c os ys log each only within ran =
 -- each operation found the log as those before it left it
 pub ran_turns : (c : Configuration) (os : List Op) (ys : List Reply) (log : List LogEvent) → Ran c [] 0 1 os ys log → InTurn 0 ys
 ran_turns c os ys log ran = (ran_in_turn c [] log 0 1 os ys ran).0
+
+all_filtered : {X : Type 0} (p q : X → Bool) (xs : List X) → list_all p xs ≡ true → list_all p (filter q xs) ≡ true
+all_filtered p q [] h = refl
+all_filtered p q (x ∷ xs) h =
+    let t = and_parts (p x) (list_all p xs) h in
+    let P : Bool → Type 0 = λ b. list_all p (cond b (x ∷ filter q xs) (filter q xs)) ≡ true in
+    elim (q x) as P [ true ↦ ap (λ b. b && list_all p (filter q xs)) t.0 ∙ all_filtered p q xs t.1 | false ↦ all_filtered p q xs t.1 ]
+
+one_fits : (c : Configuration) (earlier : List LogEvent) (e : LogEvent) → AllFit (metric_space c) earlier → MayFollow c (updates_of earlier) e → AllFit (metric_space c) (earlier ++ e ∷ [])
+one_fits c earlier (event.Update s o (update.Insert id v)) fit h =
+    let e = event.Update s o (update.Insert id v) in
+    let all = λ (os : List Object). list_all (λ (o : Object). (metric_space c).fits o.vector) os in
+    ap (λ us. all (live us)) (updates_of-append earlier (e ∷ [])) ∙ ap all (live-append (updates_of earlier) (update.Insert id v ∷ []))
+    ∙ ap (λ b. b && all (live (updates_of earlier))) h.0 ∙ fit
+one_fits c earlier (event.Update s o (update.Delete id)) fit h =
+    let e = event.Update s o (update.Delete id) in
+    let all = λ (os : List Object). list_all (λ (o : Object). (metric_space c).fits o.vector) os in
+    ap (λ us. all (live us)) (updates_of-append earlier (e ∷ [])) ∙ ap all (live-append (updates_of earlier) (update.Delete id ∷ []))
+    ∙ all_filtered (λ (o : Object). (metric_space c).fits o.vector) (λ o. not (o.id == id)) (live (updates_of earlier)) fit
+one_fits c earlier (event.Split p) fit h = absurd h
+
+follow_fit : (c : Configuration) (earlier es : List LogEvent) → AllFit (metric_space c) earlier → EachMayFollow c earlier es → AllFit (metric_space c) (earlier ++ es)
+follow_fit c earlier [] fit h = subst (AllFit (metric_space c)) (sym (append-nil earlier)) fit
+follow_fit c earlier (e ∷ es) fit h =
+    subst (AllFit (metric_space c)) (append_assoc earlier (e ∷ []) es) (follow_fit c (earlier ++ e ∷ []) es (one_fits c earlier e fit h.0) h.1)
+
+-- in a legal log each live vector fits
+pub legal_fit : (c : Configuration) (log : List LogEvent) → EachMayFollow c [] log → AllFit (metric_space c) log
+legal_fit c log h = follow_fit c [] log refl h
+
+or-false : (b : Bool) → b ≡ (b || false)
+or-false true = refl
+or-false false = refl
+
+-- what is left of an index and its replies is the outcome
+pub finished_outcome : (c : Configuration) (os : List Op) (ys : List Reply) (log : List LogEvent) (o : Outcome)
+    → IsFinished c log ys o → EachMayFollow c [] log → Ran c [] 0 1 os ys log → IsOutcomeOf c os o
+finished_outcome c os ys log o f each ran =
+    record {
+      legal = subst (λ rs. Legal c (os ∷ []) rs o.log) (sym f.replies_are) (subst (λ l. Legal c (os ∷ []) (ys ∷ []) l) (sym f.log_is) (ran_legal c os ys log each f.updates_only f.within ran));
+      turns = subst AloneInTurn (sym f.replies_are) (ran_turns c os ys log ran);
+      cells_are = f.cells_are ∙ ap catalog (sym f.log_is);
+      entries_are = f.entries_are ∙ ap (λ l. length (live (updates_of l))) (sym f.log_is);
+      one_page = f.one_page;
+      limit_is = f.limit_is;
+      short_is = f.short_is ∙ or-false (list_any is_memory ys) ∙ ap has_memory (sym f.replies_are);
+    }

@@ -87,13 +87,17 @@ pub record IsUnread (texts : Texts) (reads reads' : ℕ) (status : ℕ) (text : 
   pub status_is : status ≡ 4
   pub text_is : text ≡ unread_line file
 
--- the inputs were run: 0 where no reply is missing for want of memory, else 6
-pub record IsRun (texts : Texts) (status : ℕ) (text : List ℕ) : Type 0 where
-  pub inputs : Inputs
-  pub read : inputs_of texts ≡ Ok inputs
+-- inputs were run: 0 where no reply is missing for want of memory, else 6
+pub record RunsTo (inputs : Inputs) (status : ℕ) (text : List ℕ) : Type 0 where
   pub short : Bool
   pub ran : IsTranscript inputs short text
   pub status_is : status ≡ cond short 6 0
+
+-- the inputs that the texts are were run
+pub record IsRun (texts : Texts) (status : ℕ) (text : List ℕ) : Type 0 where
+  pub inputs : Inputs
+  pub read : inputs_of texts ≡ Ok inputs
+  pub runs : RunsTo inputs status text
 
 -- memory was wanted before there was a whole outcome
 pub record IsWant (status : ℕ) (text : List ℕ) : Type 0 where
@@ -111,12 +115,22 @@ abbrev pub Says : Option Names → (List ℕ → Option (List ℕ)) → ℕ → 
 Says None content reads reads' status text = (status ≡ 1) × (text ≡ usage_line)
 Says (Some names) content reads reads' status text = Serves names content reads reads' status text
 
--- A call answers the status of what it says and writes that text whole. Or a write failed, which is counted: then it answers 5, and a
--- front of that text was written.
+-- A text goes out whole beside its status. Or a write fails, which is counted: then the status is 5, and a front of the text went out.
+pub record Ends (said : ℕ) (text : List ℕ) (writes writes' : ℕ) (before after : Option (List ℕ)) (status : ℕ) : Type 0 where
+  pub sent : ((status ≡ said) × Wrote before after text) ⊎ ((status ≡ 5) × (WroteFront before after text × Rose writes writes'))
+  pub grows : writes ≤ writes'
+
+-- A call says something, and sends it.
 pub record Answered (names : Option Names) (content : List ℕ → Option (List ℕ)) (reads reads' writes writes' : ℕ) (before after : Option (List ℕ)) (status : ℕ) : Type 0 where
   pub said : ℕ
   pub text : List ℕ
   pub says : Says names content reads reads' said text
-  pub sent : ((status ≡ said) × Wrote before after text) ⊎ ((status ≡ 5) × (WroteFront before after text × Rose writes writes'))
-  pub reads_grow : reads ≤ reads'
-  pub writes_grow : writes ≤ writes'
+  pub ends : Ends said text writes writes' before after status
+  pub grows : reads ≤ reads'
+
+-- what the run of inputs says
+pub record Replayed (inputs : Inputs) (writes writes' : ℕ) (before after : Option (List ℕ)) (status : ℕ) : Type 0 where
+  pub said : ℕ
+  pub text : List ℕ
+  pub says : RunsTo inputs said text ⊎ IsWant said text
+  pub ends : Ends said text writes writes' before after status

@@ -1,6 +1,7 @@
 //! An exact similarity index in memory: replays scripts of updates and queries.
 #![tactic(auto)]
 
+mod loading;
 mod plain;
 mod refusals;
 mod running;

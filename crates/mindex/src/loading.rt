@@ -1,0 +1,106 @@
+//! Reads the files of a call, in the order of the words.
+ghost use Rattle.std.specs.Prelude.{◌≡◌, ◌≤◌, ℕ, [], List, IfOk, IfErr};
+ghost use Rattle.mi_base.specs.Configuration.{metric_space};
+ghost use Rattle.mi_base.specs.Scripts.{IsScriptOver};
+ghost use Rattle.mi_input.specs.Schedules.{schedule_in};
+ghost use Rattle.mi_input.specs.Scripts.{AreServed, script_in};
+ghost use Rattle.mi_input.specs.Settings.{settings_in};
+ghost use Rattle.mi_outside.specs.Outside.{Reads, RefusesRead};
+ghost use Rattle.mindex.specs.Inputs.{in_file};
+ghost use Rattle.mindex.specs.Loading.{HasMetric, Loads};
+
+use crate::refusals::{Refusal, Stop};
+use mi_base::{Schedule, Script, Settings};
+use mi_input::{InputFault, Reason, read_schedule, read_script, read_settings};
+use mi_outside::{Files, ReadRefusal};
+use mi_table::{AnyMetric, TableFault};
+use std::alloc::Global;
+
+/// What a call runs.
+#[derive(Drop)]
+pub struct Loaded {
+    pub settings: Settings,
+    pub metric: AnyMetric,
+    pub schedule: Schedule,
+    pub script: Script,
+}
+
+/// A file that is too large has no record that is looked at.
+fn stop_of(file: u32, refusal: ReadRefusal) -> Stop {
+    match refusal {
+        ReadRefusal::Failed => Stop::Unread { file },
+        ReadRefusal::TooLarge => Stop::Refused(Refusal::Record {
+            file,
+            number: 0,
+            why: Reason::Large,
+        }),
+        ReadRefusal::Memory => Stop::Memory,
+    }
+}
+
+fn fault_of(file: u32, fault: InputFault) -> Stop {
+    match fault {
+        InputFault::Bad { number, why } => Stop::Refused(Refusal::Record { file, number, why }),
+        InputFault::Memory => Stop::Memory,
+    }
+}
+
+fn load_settings<F: Files>(alloc: Global, name: &str, files: &mut F) -> Result<Settings, Stop>
+    ensures loads { Loads (F.content files.old name.now) 0 (F.faults files.old) (F.faults files.new) (in_file 0 settings_in) result }
+    ensures contents { (n : List ℕ) → F.content files.new n ≡ F.content files.old n }
+    ensures pivots { IfOk result (λ settings. settings.pivots ≡ []) }
+{
+    let mut bytes = Vec::new(alloc);
+    match files.read(name, &mut bytes) {
+        Ok(()) => match read_settings(alloc, bytes.as_slice()) {
+            Ok(settings) => Ok(settings),
+            Err(fault) => Err(fault_of(0, fault)),
+        },
+        Err(refusal) => Err(stop_of(0, refusal)),
+    }
+}
+
+fn load_schedule<F: Files>(alloc: Global, name: &str, files: &mut F) -> Result<Schedule, Stop>
+    ensures loads { Loads (F.content files.old name.now) 1 (F.faults files.old) (F.faults files.new) (in_file 1 (schedule_in 1)) result }
+    ensures contents { (n : List ℕ) → F.content files.new n ≡ F.content files.old n }
+{
+    let mut bytes = Vec::new(alloc);
+    match files.read(name, &mut bytes) {
+        Ok(()) => match read_schedule(alloc, bytes.as_slice(), 1) {
+            Ok(schedule) => Ok(schedule),
+            Err(fault) => Err(fault_of(1, fault)),
+        },
+        Err(refusal) => Err(stop_of(1, refusal)),
+    }
+}
+
+fn load_script<F: Files>(
+    alloc: Global,
+    name: &str,
+    settings: &Settings,
+    files: &mut F,
+) -> Result<Script, Stop>
+    ensures loads { Loads (F.content files.old name.now) 2 (F.faults files.old) (F.faults files.new) (in_file 2 (script_in settings.now)) result }
+    ensures contents { (n : List ℕ) → F.content files.new n ≡ F.content files.old n }
+    ensures script { IfOk result (IsScriptOver (metric_space settings.now)) }
+    ensures served { IfOk result AreServed }
+{
+    let mut bytes = Vec::new(alloc);
+    match files.read(name, &mut bytes) {
+        Ok(()) => match read_script(alloc, bytes.as_slice(), settings) {
+            Ok(script) => Ok(script),
+            Err(fault) => Err(fault_of(2, fault)),
+        },
+        Err(refusal) => Err(stop_of(2, refusal)),
+    }
+}
+
+fn metric_of(alloc: Global, settings: &Settings) -> Result<AnyMetric, Stop>
+    ensures { HasMetric settings.now result }
+{
+    match AnyMetric::of(alloc, settings) {
+        Ok(metric) => Ok(metric),
+        Err(TableFault::Memory) => Err(Stop::Memory),
+        Err(fault) => Err(Stop::Refused(Refusal::Table(fault))),
+    }
+}
