@@ -1,3 +1,5 @@
 pub mod HistoryLemmas
+pub mod PermutationLemmas
+pub mod PivotLemmas
 pub mod PrefixLemmas
 pub mod SortingLemmas

@@ -5,7 +5,7 @@ use Rattle.std.proofs.lemmas.List.Folds.{list_any-append}
 use Rattle.std.proofs.lemmas.List.{take_more, take-append-drop}
 use Rattle.mi_base.specs.Prefixes.{has, are_different}
 
-nat_eq-symmetric : (x y : ℕ) → nat_eq x y ≡ nat_eq y x
+pub nat_eq-symmetric : (x y : ℕ) → nat_eq x y ≡ nat_eq y x
 nat_eq-symmetric x y = grind (arith, nat_tests)
 
 regroup : (a b c d : Bool) → (not (a || (b || false)) && (not c && d)) ≡ (not (b || c) && (not a && d))

@@ -1,5 +1,6 @@
 pub mod Configuration
 pub mod History
+pub mod Permutations
 pub mod Prefixes
 pub mod Scripts
 pub mod Sorting

@@ -4,15 +4,18 @@
 mod counting;
 mod ids;
 mod lists;
+mod permutations;
 mod prefixes;
 mod records;
 mod refusals;
 mod settings;
 mod vectors;
 
+use arrayvec::ArrayVec;
 pub use counting::Steps;
 pub use ids::Id;
 pub use lists::{Sequence, sort_rows};
+pub use permutations::Perm;
 pub use prefixes::Prefix;
 pub use records::{Actor, LogEvent, Op, Position, Reply, Row, ScheduleItem, Take, Update};
 pub use refusals::{NoMemory, OutOfRange, VectorRefusal};
@@ -23,6 +26,8 @@ pub use vectors::Vector;
 pub type Bytes = Sequence<u8>;
 /// A list of vectors.
 pub type VectorList = Sequence<Vector>;
+/// The distances of a vector to up to 32 pivots, in the pivots' order.
+pub type Dists = ArrayVec<u32, 32>;
 /// One row of a distance table.
 pub type TableRow = Sequence<u32>;
 /// The rows of a distance table.

@@ -1,7 +1,9 @@
 //! The names of cells.
-ghost use Rattle.std.specs.Prelude.{◌≡◌, ◌<◌, ◌==◌, Some, length, IfSome, IfNone, IsTrue, slice_get, false, []};
+ghost use Rattle.std.specs.Prelude.{◌≡◌, ◌<◌, ◌≤◌, ◌==◌, Some, length, take, IfSome, IfNone, IsTrue, slice_get, false, []};
+ghost use Rattle.mi_base.specs.Permutations.{begins};
 ghost use Rattle.mi_base.specs.Prefixes.{is_prefix};
 
+use crate::Perm;
 use arrayvec::ArrayVec;
 use std::marker::Model;
 
@@ -48,6 +50,26 @@ impl Prefix {
             pivots.push(*item);
         }
         Some(Prefix { pivots })
+    }
+
+    /// The first `depth` pivots of the permutation. It takes no memory.
+    pub fn of(perm: &Perm, depth: usize) -> Prefix
+        requires few { depth ≤ 6 }
+        requires within { depth ≤ length perm.now }
+        ensures { result ≡ take depth perm.now }
+    {
+        let mut pivots = ArrayVec::new();
+        for pivot in &perm.as_slice()[..depth] {
+            pivots.push(*pivot);
+        }
+        Prefix { pivots }
+    }
+
+    /// The permutation begins with these pivots.
+    pub fn begins(&self, perm: &Perm) -> bool
+        ensures { result ≡ begins self.now perm.now }
+    {
+        perm.as_slice().starts_with(self.as_slice())
     }
 
     pub fn len(&self) -> usize

@@ -1,5 +1,6 @@
 pub mod AnsweringLemmas
 pub mod GrowingLemmas
+pub mod LoadingLemmas
 pub mod QueryLemmas
 pub mod RunningLemmas
 pub mod PlainLemmas

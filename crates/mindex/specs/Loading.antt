@@ -4,7 +4,12 @@ use Rattle.mi_base.specs.declared.records.Op.{Op}
 use Rattle.mi_base.specs.declared.records.ScheduleItem.{ScheduleItem}
 use Rattle.mi_base.specs.Configuration.{Configuration, metric_space}
 use Rattle.mi_base.specs.Scripts.{IsScriptOver}
+use Rattle.mi_input.specs.declared.faults.Reason.TheVariants as reason
+use Rattle.mi_input.specs.declared.faults.InputFault.{InputFault}
+use Rattle.mi_input.specs.declared.faults.InputFault.TheVariants as input
 use Rattle.mi_input.specs.Scripts.{AreServed}
+use Rattle.mi_outside.specs.declared.reading.ReadRefusal.{ReadRefusal}
+use Rattle.mi_outside.specs.declared.reading.ReadRefusal.TheVariants as read
 use Rattle.mi_outside.specs.Outside.{Rose}
 use Rattle.mi_table.specs.declared.faults.TableFault.{TableFault}
 use Rattle.mi_table.specs.declared.any.AnyMetric.{AnyMetric}
@@ -25,10 +30,10 @@ Finds file reads reads' found (Err (Unread at)) = (at ≡ file) × Rose reads re
 Finds file reads reads' found (Err Memory) = Unit {0}
 
 -- one file was read: a text that it has, where it tells its content, and what was found in that
-pub record Loads {X : Type 0} (told : Option (List ℕ)) (file reads reads' : ℕ) (read : List ℕ → Result X Refusal) (result : Result X Stop) : Type 0 where
+pub record Loads {X : Type 0} (told : Option (List ℕ)) (file reads reads' : ℕ) (looks : List ℕ → Result X Refusal) (result : Result X Stop) : Type 0 where
   pub text : List ℕ
   pub told_is : IsTextOf told text
-  pub finds : Finds file reads reads' (read text) result
+  pub finds : Finds file reads reads' (looks text) result
   pub grows : reads ≤ reads'
 
 -- the metric of settings, or why there is none
@@ -63,3 +68,13 @@ pub record LoadsAll (names : Names) (content : List ℕ → Option (List ℕ)) (
   pub told : AreTextsOf content names texts
   pub finds : FindsAll texts reads reads' result
   pub grows : reads ≤ reads'
+
+-- why reading a file or its bytes stops the call
+abbrev pub refusal_stop : ℕ → ReadRefusal → Stop
+refusal_stop file read.Failed = Unread file
+refusal_stop file read.TooLarge = Refused (Record file 0 reason.Large)
+refusal_stop file read.Memory = Memory
+
+abbrev pub fault_stop : ℕ → InputFault → Stop
+fault_stop file (input.Bad number why) = Refused (Record file number why)
+fault_stop file input.Memory = Memory

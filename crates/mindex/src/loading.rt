@@ -7,7 +7,7 @@ ghost use Rattle.mi_input.specs.Scripts.{AreServed, script_in};
 ghost use Rattle.mi_input.specs.Settings.{settings_in};
 ghost use Rattle.mi_outside.specs.Outside.{Reads, RefusesRead};
 ghost use Rattle.mindex.specs.Inputs.{in_file};
-ghost use Rattle.mindex.specs.Loading.{HasMetric, Loads};
+ghost use Rattle.mindex.specs.Loading.{HasMetric, Loads, fault_stop, refusal_stop};
 
 use crate::refusals::{Refusal, Stop};
 use mi_base::{Schedule, Script, Settings};
@@ -26,7 +26,9 @@ pub struct Loaded {
 }
 
 /// A file that is too large has no record that is looked at.
-fn stop_of(file: u32, refusal: ReadRefusal) -> Stop {
+fn stop_of(file: u32, refusal: ReadRefusal) -> Stop
+    ensures { result ≡ refusal_stop file refusal }
+{
     match refusal {
         ReadRefusal::Failed => Stop::Unread { file },
         ReadRefusal::TooLarge => Stop::Refused(Refusal::Record {
@@ -38,7 +40,9 @@ fn stop_of(file: u32, refusal: ReadRefusal) -> Stop {
     }
 }
 
-fn fault_of(file: u32, fault: InputFault) -> Stop {
+fn fault_of(file: u32, fault: InputFault) -> Stop
+    ensures { result ≡ fault_stop file fault }
+{
     match fault {
         InputFault::Bad { number, why } => Stop::Refused(Refusal::Record { file, number, why }),
         InputFault::Memory => Stop::Memory,

@@ -1,0 +1,7 @@
+use Rattle.mindex.proofs.loading.load_script.Goals as goal
+
+pub returns-in-Ok-clause-loads : goal.returns-in-Ok-clause-loads
+returns-in-Ok-clause-loads g c = ?
+
+pub returns-clause-loads : goal.returns-clause-loads
+returns-clause-loads g c = ?
