@@ -62,6 +62,7 @@ FindsFirst rows faults result =
 abbrev pub possible_faults : ℕ → List TableFault
 possible_faults n = lengths n ++ diagonal n ++ zeros n ++ asymmetries n ++ triangles n
 
+-- the table's first fault
 abbrev pub first_fault : List (List ℕ) → Option TableFault
 first_fault rows = first_among rows (possible_faults (length rows))
 

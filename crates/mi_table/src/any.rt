@@ -1,5 +1,5 @@
 //! The metric of given settings.
-ghost use Rattle.std.specs.Prelude.{◌≡◌, None, IfOk, IfErr};
+ghost use Rattle.std.specs.Prelude.{◌≡◌, None, IfOk, IfErr, OnOk};
 ghost use Rattle.mi_base.specs.Configuration.{metric_space};
 ghost use Rattle.mi_table.specs.Any.{any_is_metric, any_space};
 ghost use Rattle.mi_table.specs.Faults.{HasNoMetric, first_fault};
@@ -23,7 +23,8 @@ pub enum AnyMetric {
 impl AnyMetric {
     /// The metric of these settings, else the first fault of their table.
     pub fn of(alloc: Global, settings: &Settings) -> Result<AnyMetric, TableFault>
-        ensures ok { IfOk result (λ m. (any_space m ≡ metric_space settings.now) × (first_fault settings.now.rows ≡ None)) }
+        ensures space { IfOk result (λ m. any_space m ≡ metric_space settings.now) }
+        ensures faultless { OnOk result (first_fault settings.now.rows ≡ None) }
         ensures err { IfErr result (HasNoMetric settings.now) }
     {
         let dims = settings.dims;

@@ -20,6 +20,7 @@ use Rattle.mindex.specs.declared.refusals.Refusal.TheVariants.{Record, Table}
 use Rattle.mindex.specs.declared.refusals.Stop.{Stop}
 use Rattle.mindex.specs.declared.refusals.Stop.TheVariants.{Refused, Unread, Memory}
 use Rattle.mindex.specs.declared.loading.Loaded.{Loaded}
+use Rattle.mindex.specs.Calls.{memory_line, refusal_line, refusal_status, unread_line}
 use Rattle.mindex.specs.Inputs.{Names, Texts, Inputs, IsTextOf, AreTextsOf, GoodBefore, inputs_of}
 
 -- one file was read, and this was found in it; file is its place
@@ -78,3 +79,14 @@ refusal_stop file read.Memory = Memory
 abbrev pub fault_stop : ℕ → InputFault → Stop
 fault_stop file (input.Bad number why) = Refused (Record file number why)
 fault_stop file input.Memory = Memory
+
+-- what is said where there are no inputs
+abbrev pub stop_status : Stop → ℕ
+stop_status (Refused refusal) = refusal_status refusal
+stop_status (Unread file) = 4
+stop_status Memory = 7
+
+abbrev pub stop_line : Stop → List ℕ
+stop_line (Refused refusal) = refusal_line refusal
+stop_line (Unread file) = unread_line file
+stop_line Memory = memory_line

@@ -7,7 +7,7 @@ ghost use Rattle.mi_input.specs.Scripts.{AreServed, script_in};
 ghost use Rattle.mi_input.specs.Settings.{settings_in};
 ghost use Rattle.mi_outside.specs.Outside.{Reads, RefusesRead};
 ghost use Rattle.mindex.specs.Inputs.{in_file};
-ghost use Rattle.mindex.specs.Loading.{HasMetric, Loads, fault_stop, refusal_stop};
+ghost use Rattle.mindex.specs.Loading.{HasMetric, Loads, LoadsAll, fault_stop, refusal_stop};
 
 use crate::refusals::{Refusal, Stop};
 use mi_base::{Schedule, Script, Settings};
@@ -107,4 +107,27 @@ fn metric_of(alloc: Global, settings: &Settings) -> Result<AnyMetric, Stop>
         Err(TableFault::Memory) => Err(Stop::Memory),
         Err(fault) => Err(Stop::Refused(Refusal::Table(fault))),
     }
+}
+
+/// Reads the settings, the schedule and the script, each before the next.
+pub fn load<F: Files>(
+    alloc: Global,
+    settings_name: &str,
+    schedule_name: &str,
+    script_name: &str,
+    files: &mut F,
+) -> Result<Loaded, Stop>
+    ensures loads { LoadsAll (record { settings = settings_name.now; schedule = schedule_name.now; script = script_name.now }) (F.content files.old) (F.faults files.old) (F.faults files.new) result }
+    ensures contents { (n : List ℕ) → F.content files.new n ≡ F.content files.old n }
+{
+    let settings = load_settings(alloc, settings_name, files)?;
+    let metric = metric_of(alloc, &settings)?;
+    let schedule = load_schedule(alloc, schedule_name, files)?;
+    let script = load_script(alloc, script_name, &settings, files)?;
+    Ok(Loaded {
+        settings,
+        metric,
+        schedule,
+        script,
+    })
 }

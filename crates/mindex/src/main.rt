@@ -4,6 +4,7 @@
 mod loading;
 mod plain;
 mod refusals;
+mod replaying;
 mod running;
 mod texts;
 

@@ -1,7 +1,20 @@
+use Rattle.std.proofs.Common.{◌≡◌, [], subst, sym, ◌∙◌}
+use Rattle.mi_input.specs.Schedules.{schedule_in}
+use Rattle.mi_outside.specs.Outside.{Reads}
+use Rattle.mindex.proofs.LoadingLemmas.{loads_fault, loads_ok, loads_refused}
 use Rattle.mindex.proofs.loading.load_schedule.Goals as goal
 
 pub returns-in-Ok-clause-loads : goal.returns-in-Ok-clause-loads
-returns-in-Ok-clause-loads g c = ?
+returns-in-Ok-clause-loads g c =
+    let told = g.F.Files.content c.args.files.now c.args.name.now in
+    let reads = subst (λ before. Reads told before c.read.new.into.items) c.new-bytes.ensures.items c.in-Ok.ensures.ok in
+    let bytes = subst (λ after. Reads told [] after) (sym c.as_slice.ensures.value) reads in
+    rw c.fault_of.ensures
+    (loads_fault told 1 (g.F.Files.faults c.args.files.now) (g.F.Files.faults c.read.new.self) (schedule_in 1) c.as_slice.result.now c.in-Err-read_schedule.fault
+    bytes c.in-Err-read_schedule.ensures.err c.read.ensures.count)
 
 pub returns-clause-loads : goal.returns-clause-loads
-returns-clause-loads g c = ?
+returns-clause-loads g c =
+    rw c.stop_of.ensures
+    (loads_refused (g.F.Files.content c.args.files.now c.args.name.now) 1 (g.F.Files.faults c.args.files.now) (g.F.Files.faults c.read.new.self) (schedule_in 1) c.in-Err.refusal
+    c.in-Err.ensures.err c.read.ensures.count)

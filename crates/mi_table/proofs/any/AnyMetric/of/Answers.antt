@@ -25,11 +25,13 @@ returns-in_err-new-in-Table-clause-err c =
     let p = err_from_is_err_and c.from_residual.result c.from_residual.ensures.1 in
     rw (p.1, p.2) (refused s _ metric (ap first_fault rows ∙ c.in_err-new-in-Table.ensures.err))
 
-pub returns-in_ok-new-in-Table-clause-ok : goal.returns-in_ok-new-in-Table-clause-ok
-returns-in_ok-new-in-Table-clause-ok c =
-    let s = c.args.settings.now in
+pub returns-in_ok-new-in-Table-clause-space : goal.returns-in_ok-new-in-Table-clause-space
+returns-in_ok-new-in-Table-clause-space c =
     let inside = c.settings.inside in
-    let made = c.in_ok-new-in-Table.ensures.ok in
-    let rows : s.rows ≡ c.in-Ok.rows = ap (λ (s : Configuration). s.rows) (sym c.settings.view_is) ∙ sym c.in-Ok.ensures in
-    let space : metric_space s ≡ table_metric inside.rows = ap metric_space (sym c.settings.view_is) ∙ ap (λ k. metric_of k inside.dims inside.rows) c.in-Table.is in
-    (ap table_metric (made.0 ∙ c.in-Ok.ensures) ∙ sym space, ap first_fault rows ∙ made.1)
+    let space : metric_space c.args.settings.now ≡ table_metric inside.rows =
+    ap metric_space (sym c.settings.view_is) ∙ ap (λ k. metric_of k inside.dims inside.rows) c.in-Table.is in
+    ap table_metric (c.in_ok-new-in-Table.ensures.ok.0 ∙ c.in-Ok.ensures) ∙ sym space
+
+pub returns-in_ok-new-in-Table-clause-faultless : goal.returns-in_ok-new-in-Table-clause-faultless
+returns-in_ok-new-in-Table-clause-faultless c =
+    ap (λ (s : Configuration). first_fault s.rows) (sym c.settings.view_is) ∙ ap first_fault (sym c.in-Ok.ensures) ∙ c.in_ok-new-in-Table.ensures.ok.1
