@@ -1,4 +1,5 @@
 pub mod AnsweringLemmas
+pub mod CallLemmas
 pub mod GrowingLemmas
 pub mod LoadingLemmas
 pub mod QueryLemmas

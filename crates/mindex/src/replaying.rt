@@ -1,0 +1,88 @@
+//! The command that replays scripts.
+ghost use Rattle.std.specs.Prelude.{◌≡◌, ◌≤◌, ℕ, List, OnErr, OnOk, IsTrue, is_some, length, map};
+ghost use Rattle.std.specs.String.{string_bytes};
+ghost use Rattle.mindex.specs.Calls.{Answered, Ends, Replayed};
+ghost use Rattle.mindex.specs.Inputs.{names_in};
+ghost use Rattle.mindex.specs.Loading.{MayRun, inputs_in, stop_line, stop_status};
+
+use crate::loading::{Loaded, load};
+use crate::refusals::Stop;
+use crate::running::run_script;
+use crate::texts::{refusal_status, send_memory, send_refusal, send_unread, send_usage};
+use mi_outside::{Files, Sink, SinkFailed};
+use mi_print::render;
+use std::alloc::Global;
+use std::marker::Brand;
+use std::sync::ledger::Blank;
+
+/// The status of a text that was sent whole, or 5.
+fn ended(said: u8, sent: Result<(), SinkFailed>) -> u8
+    ensures ok { OnOk sent (result ≡ said) }
+    ensures err { OnErr sent (result ≡ 5) }
+{
+    match sent {
+        Ok(()) => said,
+        Err(SinkFailed) => 5,
+    }
+}
+
+/// Runs the script and sends what comes of it: the transcript, or the line of want of memory.
+fn replay_inputs<S: Sink>(alloc: Global, inputs: &Loaded, out: &mut S) -> u8
+    requires { MayRun inputs.now }
+    ensures { Replayed (inputs_in inputs.now) (S.faults out.old) (S.faults out.new) (S.written out.old) (S.written out.new) result }
+{
+    match run_script::<_, Brand>(
+        alloc,
+        &inputs.settings,
+        &inputs.metric,
+        &inputs.script,
+        Blank::new(1),
+    ) {
+        Ok(outcome) => {
+            let said = if outcome.short { 6 } else { 0 };
+            ended(said, render(&outcome, out))
+        }
+        Err(_) => ended(7, send_memory(out)),
+    }
+}
+
+/// Sends the line of a call without inputs.
+fn stopped<S: Sink>(stop: Stop, out: &mut S) -> u8
+    ensures { Ends (stop_status stop) (stop_line stop) (S.faults out.old) (S.faults out.new) (S.written out.old) (S.written out.new) result }
+{
+    match stop {
+        Stop::Refused(refusal) => ended(refusal_status(refusal), send_refusal(refusal, out)),
+        Stop::Unread { file } => ended(4, send_unread(file, out)),
+        Stop::Memory => ended(7, send_memory(out)),
+    }
+}
+
+/// The words are a command and three names.
+fn are_served(words: &[String]) -> bool
+    ensures served { result ≡ is_some (names_in (map string_bytes words.now)) }
+    ensures four { IsTrue result → length words.now ≡ 4 }
+{
+    words.len() == 4 && words[0].as_str() == "replay"
+}
+
+/// Replays one script by an empty schedule. The words are those behind the program's name.
+pub fn replay_call<F: Files, S: Sink>(
+    alloc: Global,
+    words: &[String],
+    files: &mut F,
+    out: &mut S,
+) -> u8
+    ensures answered { Answered (names_in (map string_bytes words.now)) (F.content files.old) (F.faults files.old) (F.faults files.new) (S.faults out.old) (S.faults out.new) (S.written out.old) (S.written out.new) result }
+    ensures contents { (n : List ℕ) → F.content files.new n ≡ F.content files.old n }
+{
+    if !are_served(words) {
+        return ended(1, send_usage(out));
+    }
+    let settings = words[1].as_str();
+    let schedule = words[2].as_str();
+    let script = words[3].as_str();
+    match load(alloc, settings, schedule, script, files) {
+        Ok(inputs) => replay_inputs(alloc, &inputs, out),
+        Err(stop) => stopped(stop, out),
+    }
+}
