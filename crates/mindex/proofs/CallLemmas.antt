@@ -47,8 +47,8 @@ runs_to l o said is status = record {
     entries_are = is.entries_are;
     short_is = sym is.short_is;
     text_is = ap (λ cells. transcript o.replies o.log cells o.entries o.allotted o.limit) is.cells_are
-      ∙ ap (λ n. transcript o.replies o.log (catalog o.log) o.entries n o.limit) is.one_page
-      ∙ ap (λ n. transcript o.replies o.log (catalog o.log) o.entries 1 n) is.limit_is;
+        ∙ ap (λ n. transcript o.replies o.log (catalog o.log) o.entries n o.limit) is.one_page
+        ∙ ap (λ n. transcript o.replies o.log (catalog o.log) o.entries 1 n) is.limit_is;
   };
   status_is = status;
 }
@@ -146,7 +146,8 @@ module _ (names : Names) (content : List ℕ → Option (List ℕ)) where
       let texts : Texts = record { settings = l.text; schedule = k.text; script = m.text } in
       let told : AreTextsOf content names texts = record { settings = l.told_is; schedule = k.told_is; script = m.told_is } in
       record {
-        texts = texts; told = told;
+        texts = texts;
+        told = told;
         finds = finds_script texts r0 r2 r3 c items s (settings_good texts c l.finds none) k.finds (omega (arith, l.grows, k.grows)) m.finds;
         grows = omega (arith, l.grows, k.grows, m.grows);
       }
@@ -159,9 +160,13 @@ module _ (names : Names) (content : List ℕ → Option (List ℕ)) where
       let told : AreTextsOf content names texts = record { settings = l.told_is; schedule = k.told_is; script = m.told_is } in
       let c = loaded.settings in
       record {
-        texts = texts; told = told;
-        finds = (good_inputs texts c (settings_good texts c l.finds none) ∙ ap (λ r. r >>= after_schedule texts c) k.finds
-          ∙ ap (λ (r : Result (List Op) Refusal). r >>= λ ops. Ok (record { settings = c; schedule = loaded.schedule; script = ops })) m.finds, may);
+        texts = texts;
+        told = told;
+        finds = (
+          good_inputs texts c (settings_good texts c l.finds none) ∙ ap (λ r. r >>= after_schedule texts c) k.finds
+              ∙ ap (λ (r : Result (List Op) Refusal). r >>= λ ops. Ok (record { settings = c; schedule = loaded.schedule; script = ops })) m.finds,
+          may,
+        );
         grows = omega (arith, l.grows, k.grows, m.grows);
       }
 

@@ -1,11 +1,67 @@
 //! An exact similarity index in memory: replays scripts of updates and queries.
 #![tactic(auto)]
 
+ghost use Rattle.std.specs.Prelude.{◌≡◌, ℕ, List, map};
+ghost use Rattle.std.specs.String.{string_bytes};
+ghost use Rattle.mindex.specs.Calls.{Answered};
+ghost use Rattle.mindex.specs.Inputs.{names_in};
+
+mod adapters;
 mod loading;
 mod plain;
 mod refusals;
 mod replaying;
 mod running;
+#[cfg(test)]
+mod tests;
 mod texts;
 
-fn main() {}
+use adapters::{RealFiles, RealOut};
+use mi_outside::{Files, Gate, OpenGate, Sink};
+use replaying::replay_call;
+use std::alloc::Global;
+use std::process::ExitCode;
+use std::sync::Wait;
+use std::thread::Threads;
+use std::{env, io};
+
+/// Runs the command that the words name. They are those behind the program's name.
+pub fn mindex<R: Threads + Wait + Sync, F: Files, S: Sink, G: Gate>(
+    _rt: &R,
+    alloc: Global,
+    words: &[String],
+    files: &mut F,
+    out: &mut S,
+    _gate: &G,
+) -> u8
+    ensures answered { Answered (names_in (map string_bytes words.now)) (F.content files.old) (F.faults files.old) (F.faults files.new) (S.faults out.old) (S.faults out.new) (S.written out.old) (S.written out.new) result }
+    ensures contents { (n : List ℕ) → F.content files.new n ≡ F.content files.old n }
+{
+    replay_call(alloc, words, files, out)
+}
+
+/// The words behind the program's name. Words that can't be had as text are no words, which no command is.
+fn words_of(rt: &HostRuntime) -> Vec<String> {
+    match env::args(rt) {
+        Ok(words) => match words.skip(1).collect(rt.alloc()) {
+            Ok(words) => words,
+            Err(_) => Vec::new(rt.alloc()),
+        },
+        Err(_) => Vec::new(rt.alloc()),
+    }
+}
+
+fn main(rt: HostRuntime) -> ExitCode {
+    let words = words_of(&rt);
+    let mut files = RealFiles::new(&rt);
+    let mut out = RealOut::new(io::writer(&rt));
+    let status = mindex(
+        &rt,
+        rt.alloc(),
+        words.as_slice(),
+        &mut files,
+        &mut out,
+        &OpenGate::new(),
+    );
+    ExitCode::from(status)
+}

@@ -18,7 +18,7 @@ returns-after-outcome g c =
       text = text;
       says = inl (runs_to c.args.inputs.now o c.if-outcome.said c.in-Ok.ensures said);
       ends = ends_from c.if-outcome.said c.ended.result text (g.S.Sink.written c.args.out.now) (g.S.Sink.written c.render.new.out) (g.S.Sink.faults c.args.out.now) (g.S.Sink.faults c.render.new.out)
-        c.render.result c.render.ensures c.ended.ensures.ok c.ended.ensures.err;
+          c.render.result c.render.ensures c.ended.ensures.ok c.ended.ensures.err;
     }
 
 pub returns-in-Err : goal.returns-in-Err
@@ -28,5 +28,5 @@ returns-in-Err g c =
       text = memory_line;
       says = inr (record { status_is = refl; text_is = refl });
       ends = ends_from 7 c.ended-in-Err.result memory_line (g.S.Sink.written c.args.out.now) (g.S.Sink.written c.send_memory.new.out) (g.S.Sink.faults c.args.out.now) (g.S.Sink.faults c.send_memory.new.out)
-        c.send_memory.result c.send_memory.ensures c.ended-in-Err.ensures.ok c.ended-in-Err.ensures.err;
+          c.send_memory.result c.send_memory.ensures c.ended-in-Err.ensures.ok c.ended-in-Err.ensures.err;
     }
