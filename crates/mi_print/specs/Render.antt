@@ -11,8 +11,8 @@ use Rattle.mi_base.specs.declared.records.Reply.TheVariants.{Stored, Removed, Pr
 use Rattle.mi_base.specs.declared.records.Row.{Row}
 use Rattle.mi_base.specs.Configuration.{Configuration}
 use Rattle.mi_base.specs.History.{updates_of}
-use Rattle.mi_print.specs.declared.outcome.Leaf.{Leaf}
-use Rattle.mi_print.specs.Catalog.{catalog}
+use Rattle.mi_tree.specs.declared.outcomes.Leaf.{Leaf}
+use Rattle.mi_tree.specs.Catalog.{catalog}
 
 -- each field after a comma
 abbrev pub after_commas : List (List ℕ) → List ℕ

@@ -1,10 +1,8 @@
-//! What came of the scripts, when that is right, and its text.
+//! The text of what came of the scripts.
 #![tactic(auto)]
 
 mod line;
-mod outcome;
 mod transcript;
 
 pub use line::Line;
-pub use outcome::{Leaf, Leaves, Outcome};
 pub use transcript::{render, send_numbers};

@@ -6,13 +6,14 @@ ghost use Rattle.mi_base.specs.History.{updates_of};
 ghost use Rattle.mi_outside.specs.Outside.{Sends};
 ghost use Rattle.mi_print.specs.Render.{line, number_line, row_line, row_lines, reply_lines, session_lines, prefix_text, event_line, history_lines, leaf_line, cell_lines, transcript};
 
-use crate::{Leaf, Leaves, Line, Outcome};
+use crate::Line;
 use arrayvec::ArrayString;
 use itoa::Buffer;
 use mi_base::{
     Log, LogEvent, Position, Prefix, Replies, Reply, Row, Rows, Transcript, Update, Vector,
 };
 use mi_outside::{Sink, SinkFailed};
+use mi_tree::{Leaf, Leaves, Outcome};
 
 /// Sends a word and numbers.
 pub fn send_numbers<S: Sink>(word: &str, numbers: &[u64], out: &mut S) -> Result<(), SinkFailed>

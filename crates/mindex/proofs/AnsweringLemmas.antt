@@ -16,9 +16,9 @@ use Rattle.mi_base.specs.declared.records.Reply.TheVariants.{Stored, Removed}
 use Rattle.mi_base.specs.Configuration.{Configuration, metric_space}
 use Rattle.mi_base.specs.History.{Entered, entered, updates_of, is_live}
 use Rattle.mi_base.proofs.HistoryLemmas.{entered-append, updates_of-append}
-use Rattle.mi_print.specs.Right.{Right, IsUpdateNumber, before}
-use Rattle.mi_print.specs.Legal.{MayFollow, accepted}
-use Rattle.mi_print.specs.InTurn.{BeganAt}
+use Rattle.mi_tree.specs.Right.{Right, IsUpdateNumber, before}
+use Rattle.mi_tree.specs.Legal.{MayFollow, accepted}
+use Rattle.mi_tree.specs.InTurn.{BeganAt}
 use Rattle.mindex.specs.Answering.{Answers, event_of, gain}
 
 slice_get-append_seam : {X : Type 0} (xs : List X) (y : X) (ys : List X) → slice_get (xs ++ y ∷ ys) (length xs) ≡ Some y

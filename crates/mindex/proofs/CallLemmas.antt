@@ -11,8 +11,8 @@ use Rattle.mi_input.specs.Scripts.{script_in}
 use Rattle.mi_outside.specs.declared.writing.SinkFailed.{SinkFailed}
 use Rattle.mi_outside.specs.Outside.{Rose, Sends, Wrote, WroteFront}
 use Rattle.mi_outside.proofs.SendingLemmas.{Rose-later, Rose-earlier}
-use Rattle.mi_print.specs.declared.outcome.Outcome.{Outcome}
-use Rattle.mi_print.specs.Catalog.{catalog}
+use Rattle.mi_tree.specs.declared.outcomes.Outcome.{Outcome}
+use Rattle.mi_tree.specs.Catalog.{catalog}
 use Rattle.mi_print.specs.Render.{transcript}
 use Rattle.mi_table.specs.declared.faults.TableFault.{TableFault}
 use Rattle.mi_table.specs.Faults.{first_fault}

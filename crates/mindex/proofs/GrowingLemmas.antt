@@ -16,8 +16,8 @@ use Rattle.mi_base.specs.declared.records.Row.{Row}
 use Rattle.mi_base.specs.Configuration.{Configuration, metric_space}
 use Rattle.mi_base.specs.History.{Entered, entered, updates_of, is_live, events_at, at_position, IsPosition, range_scan}
 use Rattle.mi_base.proofs.HistoryLemmas.{entered-append, updates_of-append}
-use Rattle.mi_print.specs.Catalog.{opened, candidates}
-use Rattle.mi_print.specs.Right.{Right, IsUpdateNumber, IsRange, before, history_at}
+use Rattle.mi_tree.specs.Catalog.{opened, candidates}
+use Rattle.mi_tree.specs.Right.{Right, IsUpdateNumber, IsRange, before, history_at}
 use Rattle.mindex.proofs.AnsweringLemmas.{length-updates_of}
 
 -- a prefix of a log is the same prefix of one that goes on

@@ -17,7 +17,7 @@ use Rattle.mi_base.specs.History.{Object, live, live_after, is_among, is_live}
 use Rattle.mi_base.specs.Sorting.{SameElements}
 use Rattle.mi_base.proofs.SortingLemmas.{same_filter, same_length}
 use Rattle.mi_base.proofs.HistoryLemmas.{live-append, same_any}
-use Rattle.mi_print.specs.Catalog.{hull_after, is_insert}
+use Rattle.mi_tree.specs.Catalog.{hull_after, is_insert}
 use Rattle.mindex.specs.Plain.{object_in}
 
 abbrev Entries : Type 0

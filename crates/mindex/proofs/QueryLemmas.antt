@@ -11,7 +11,7 @@ use Rattle.mi_base.specs.Space.{MetricSpace}
 use Rattle.mi_base.specs.History.{Object, live, live_after, updates_of, hits, row_cmp, range_scan}
 use Rattle.mi_base.specs.Sorting.{sorted, SameElements}
 use Rattle.mi_base.proofs.HistoryLemmas.{sorted-hits, same_all}
-use Rattle.mi_print.specs.Catalog.{catalog, passes, opened, candidates, hull_after, is_insert}
+use Rattle.mi_tree.specs.Catalog.{catalog, passes, opened, candidates, hull_after, is_insert}
 use Rattle.mindex.specs.Plain.{object_in}
 use Rattle.mindex.specs.Answering.{AllFit}
 

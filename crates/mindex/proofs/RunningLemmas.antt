@@ -12,13 +12,13 @@ use Rattle.mi_base.specs.declared.records.Reply.{Reply}
 use Rattle.mi_base.specs.declared.records.Reply.TheVariants.{Stored, Removed, Present, Absent, Range, Nearest}
 use Rattle.mi_base.specs.Configuration.{Configuration, metric_space}
 use Rattle.mi_base.specs.History.{Object, Entered, entered, updates_of, events_at, live}
-use Rattle.mi_print.specs.declared.outcome.Outcome.{Outcome}
-use Rattle.mi_print.specs.Catalog.{catalog}
+use Rattle.mi_tree.specs.declared.outcomes.Outcome.{Outcome}
+use Rattle.mi_tree.specs.Catalog.{catalog}
 use Rattle.mindex.specs.Outcomes.{IsFinished, IsOutcomeOf, has_memory, is_memory}
 use Rattle.mi_base.proofs.HistoryLemmas.{entered-append, updates_of-append, live-append}
-use Rattle.mi_print.specs.Right.{Right}
-use Rattle.mi_print.specs.Legal.{MayFollow, EachMayFollow, LegalLog, EachRight, AllRight, accepted, accepted_in, AllEntered, events_to, reach, NeverFalls, Legal}
-use Rattle.mi_print.specs.InTurn.{place, BeganAt, updates_after, InTurn, AloneInTurn}
+use Rattle.mi_tree.specs.Right.{Right}
+use Rattle.mi_tree.specs.Legal.{MayFollow, EachMayFollow, LegalLog, EachRight, AllRight, accepted, accepted_in, AllEntered, events_to, reach, NeverFalls, Legal}
+use Rattle.mi_tree.specs.InTurn.{place, BeganAt, updates_after, InTurn, AloneInTurn}
 use Rattle.mindex.specs.Answering.{AllFit, Answers, Ran, event_of, gain}
 use Rattle.mindex.proofs.AnsweringLemmas.{length-updates_of}
 use Rattle.mindex.proofs.GrowingLemmas.{right_grows}

@@ -8,9 +8,9 @@ use Rattle.mi_base.specs.declared.records.Reply.{Reply}
 use Rattle.mi_base.specs.Space.{MetricSpace}
 use Rattle.mi_base.specs.Configuration.{Configuration, metric_space}
 use Rattle.mi_base.specs.History.{Entered, live, updates_of}
-use Rattle.mi_print.specs.Right.{Right}
-use Rattle.mi_print.specs.Legal.{MayFollow, accepted}
-use Rattle.mi_print.specs.InTurn.{BeganAt}
+use Rattle.mi_tree.specs.Right.{Right}
+use Rattle.mi_tree.specs.Legal.{MayFollow, accepted}
+use Rattle.mi_tree.specs.InTurn.{BeganAt}
 
 -- each live vector fits
 abbrev pub AllFit : MetricSpace → List LogEvent → Type 0

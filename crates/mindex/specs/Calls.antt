@@ -8,8 +8,8 @@ use Rattle.mi_base.specs.History.{live, updates_of}
 use Rattle.mi_input.specs.declared.faults.Reason.{Reason}
 use Rattle.mi_input.specs.declared.faults.Reason.TheVariants as reason
 use Rattle.mi_outside.specs.Outside.{Rose, Wrote, WroteFront}
-use Rattle.mi_print.specs.InTurn.{AloneInTurn}
-use Rattle.mi_print.specs.Legal.{Legal}
+use Rattle.mi_tree.specs.InTurn.{AloneInTurn}
+use Rattle.mi_tree.specs.Legal.{Legal}
 use Rattle.mi_print.specs.Render.{line, number_line, rendering}
 use Rattle.mi_table.specs.declared.faults.TableFault.{TableFault}
 use Rattle.mi_table.specs.declared.faults.TableFault.TheVariants as table

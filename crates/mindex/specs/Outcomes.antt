@@ -7,10 +7,10 @@ use Rattle.mi_base.specs.declared.records.Reply.{Reply}
 use Rattle.mi_base.specs.declared.records.Reply.TheVariants.{Memory}
 use Rattle.mi_base.specs.Configuration.{Configuration}
 use Rattle.mi_base.specs.History.{live, updates_of}
-use Rattle.mi_print.specs.declared.outcome.Outcome.{Outcome}
-use Rattle.mi_print.specs.Catalog.{catalog}
-use Rattle.mi_print.specs.Legal.{Legal}
-use Rattle.mi_print.specs.InTurn.{AloneInTurn}
+use Rattle.mi_tree.specs.declared.outcomes.Outcome.{Outcome}
+use Rattle.mi_tree.specs.Catalog.{catalog}
+use Rattle.mi_tree.specs.Legal.{Legal}
+use Rattle.mi_tree.specs.InTurn.{AloneInTurn}
 
 abbrev pub is_memory : Reply → Bool
 is_memory Memory = true

@@ -4,7 +4,7 @@ use Rattle.mi_base.specs.declared.records.LogEvent.{LogEvent}
 use Rattle.mi_base.specs.Configuration.{Configuration, IsWithinLimits}
 use Rattle.mi_base.specs.History.{Object, live, updates_of}
 use Rattle.mi_base.specs.Sorting.{SameElements}
-use Rattle.mi_print.specs.Catalog.{hull_after}
+use Rattle.mi_tree.specs.Catalog.{hull_after}
 
 -- the settings that it was opened with, and the log
 pub record PlainState : Type 0 where

@@ -2,8 +2,8 @@
 ghost use Rattle.std.specs.Prelude.{◌≡◌, ◌+◌, ◌<◌, ◌≤◌, [], ℕ, IfOk, IfErr, OnOk, OnErr, IsTrue, length, nat_le, ◌++◌, ◌∷◌, true, false};
 ghost use Rattle.mi_base.specs.Configuration.{metric_space};
 ghost use Rattle.mi_base.specs.History.{IsPosition, at_position, is_live, live, range_scan, updates_of};
-ghost use Rattle.mi_print.specs.InTurn.{place};
-ghost use Rattle.mi_print.specs.Catalog.{catalog};
+ghost use Rattle.mi_tree.specs.InTurn.{place};
+ghost use Rattle.mi_tree.specs.Catalog.{catalog};
 ghost use Rattle.mindex.specs.Answering.{Answers, AllFit};
 
 use mi_base::{
@@ -11,7 +11,7 @@ use mi_base::{
     Vector, sort_rows,
 };
 use mi_metric::Metric;
-use mi_print::{Leaf, Leaves};
+use mi_tree::{Leaf, Leaves};
 use std::alloc::Global;
 use std::collections::BTreeMap;
 use std::marker::Model;

@@ -219,8 +219,8 @@ fn each_failed_read_and_write_is_told(rt: HostRuntime) -> Result<(), Fail> {
         assert_eq!(rt; status, 4);
         assert_eq!(rt; out.bytes(), text.as_bytes());
     }
-    // 26 writes of at most 8 bytes send the text; each of them fails in turn.
-    for write in 1..27u64 {
+    // 24 writes of at most 8 bytes send the text; each of them fails in turn.
+    for write in 1..25u64 {
         let mut files = files_of(alloc, PLANE, "", NEAR, &[])?;
         let mut out = MemorySink::new(alloc, 8, &[write], 1000)?;
         let status = replay_call(alloc, words.as_slice(), &mut files, &mut out);
@@ -232,12 +232,11 @@ fn each_failed_read_and_write_is_told(rt: HostRuntime) -> Result<(), Fail> {
     Ok(())
 }
 
-/// What a scan of the objects answers, as lines.
+/// The lines of a scan of the objects for those within the radius.
 fn scan(
     alloc: Global,
     objects: &BTreeMap<u64, i64>,
-    updates: u64,
-    opened: u64,
+    head: &str,
     radius: i64,
     query: i64,
 ) -> Result<String, Fail> {
@@ -251,10 +250,89 @@ fn scan(
     rows.sort()?;
     let found = rows.len();
     let live = objects.len();
-    let mut text = format!(in alloc; "range,{updates},0,{found},{opened},{live}\n")?;
+    let mut text = format!(in alloc; "{head},{found},1,{live}\n")?;
     for (distance, id) in rows.as_slice() {
         let line = format!(in alloc; "{distance},{id}\n")?;
         text.push_str(line.as_str())?;
     }
     Ok(text)
+}
+
+/// A script by a fixed rule, and the replies that scanning by hand gives.
+fn scanned_script(alloc: Global, seed: u64) -> Result<(String, String), Fail> {
+    let mut state = seed;
+    let mut objects = BTreeMap::new(alloc);
+    let mut updates = 0u64;
+    let mut script = String::new(alloc);
+    let mut replies = String::from_str(alloc, "session,0\n")?;
+    for turn in 0..80u64 {
+        state = state
+            .wrapping_mul(6364136223846793005)
+            .wrapping_add(1442695040888963407);
+        let id = (state >> 33) % 9;
+        let coordinate = ((state >> 40) % 21) as i64 - 10;
+        if turn > 0 && state >> 62 == 0 {
+            let line = format!(in alloc; "range,{id},{coordinate}\n")?;
+            script.push_str(line.as_str())?;
+            let head = format!(in alloc; "range,{updates},0")?;
+            let rows = scan(alloc, &objects, head.as_str(), id as i64, coordinate)?;
+            replies.push_str(rows.as_str())?;
+            continue;
+        }
+        let deletes = turn > 0 && state >> 62 == 1;
+        let line = if deletes {
+            format!(in alloc; "delete,{id}\n")?
+        } else {
+            format!(in alloc; "insert,{id},{coordinate}\n")?
+        };
+        script.push_str(line.as_str())?;
+        let reply = match (deletes, objects.contains_key(&id)) {
+            (true, false) => format!(in alloc; "absent,{updates},0\n")?,
+            (false, true) => format!(in alloc; "present,{updates},0\n")?,
+            (accepts_delete, _) => {
+                updates = updates.saturating_add(1);
+                if accepts_delete {
+                    objects.remove(&id);
+                    format!(in alloc; "removed,{updates}\n")?
+                } else {
+                    objects.insert(id, coordinate)?;
+                    format!(in alloc; "stored,{updates}\n")?
+                }
+            }
+        };
+        replies.push_str(reply.as_str())?;
+    }
+    Ok((script, replies))
+}
+
+#[test]
+fn replies_are_those_of_a_scan_by_hand(rt: HostRuntime) -> Result<(), Fail> {
+    let alloc = rt.alloc();
+    let words = replay_words(alloc)?;
+    let line = "metric,l1\ndims,1\nlevels,0\ncell,1\nupdates,100\npages,1\n";
+    for seed in 0..8u64 {
+        let (script, replies) = scanned_script(alloc, seed)?;
+        let mut files = files_of(alloc, line, "", script.as_str(), &[])?;
+        let mut out = MemorySink::new(alloc, 100, &[], 100_000)?;
+        let status = replay_call(alloc, words.as_slice(), &mut files, &mut out);
+        assert_eq!(rt; status, 0, "seed {seed}");
+        assert!(rt; out.bytes().starts_with(replies.as_bytes()), "seed {seed}");
+    }
+    Ok(())
+}
+
+#[test]
+fn real_files_are_read_and_real_output_is_written(rt: HostRuntime) -> Result<(), Fail> {
+    let alloc = rt.alloc();
+    let name = "/tmp/mindex_real_adapters.csv";
+    fs::write(&rt, name, NEAR)?;
+    let mut files = RealFiles::new(&rt);
+    let mut bytes = Vec::new(alloc);
+    assert!(rt; files.read(name, &mut bytes).is_ok());
+    assert_eq!(rt; bytes.as_slice(), NEAR.as_bytes());
+    assert!(rt; files.read("/tmp/mindex_no_such_file", &mut bytes).is_err());
+    let mut out = RealOut::new(Vec::new(alloc));
+    assert_eq!(rt; out.write(b"pages").ok(), Some(5));
+    fs::remove_file(&rt, name)?;
+    Ok(())
 }

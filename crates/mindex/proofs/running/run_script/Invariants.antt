@@ -1,5 +1,5 @@
 use Rattle.std.proofs.Common.{◌≡◌, [], take}
-use Rattle.mi_print.specs.Legal.{EachMayFollow}
+use Rattle.mi_tree.specs.Legal.{EachMayFollow}
 use Rattle.mindex.specs.Answering.{Ran}
 use Rattle.mindex.proofs.running.run_script.Given as goal
 

@@ -7,7 +7,7 @@ use Rattle.mi_base.specs.declared.records.Update.TheVariants as update
 use Rattle.mi_base.specs.History.{live, updates_of}
 use Rattle.mi_base.specs.Sorting.{SameElements}
 use Rattle.mi_base.proofs.HistoryLemmas.{updates_of-append}
-use Rattle.mi_print.specs.Catalog.{hull_after}
+use Rattle.mi_tree.specs.Catalog.{hull_after}
 use Rattle.mindex.specs.Plain.{object_in}
 use Rattle.mindex.proofs.AnsweringLemmas.{length-gained}
 use Rattle.mindex.proofs.PlainLemmas.{same_removed, hull_deleted}

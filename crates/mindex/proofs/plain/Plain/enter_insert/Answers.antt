@@ -8,7 +8,7 @@ use Rattle.mi_base.specs.declared.records.Update.TheVariants as update
 use Rattle.mi_base.specs.History.{is_live, live, updates_of}
 use Rattle.mi_base.specs.Sorting.{SameElements}
 use Rattle.mi_base.proofs.HistoryLemmas.{same_any, updates_of-append}
-use Rattle.mi_print.specs.Catalog.{hull_after}
+use Rattle.mi_tree.specs.Catalog.{hull_after}
 use Rattle.mindex.specs.Plain.{object_in, IsPlain}
 use Rattle.mindex.proofs.AnsweringLemmas.{length-gained}
 use Rattle.mindex.proofs.PlainLemmas.{found, absent_looked_up, same_inserted, hull_inserted}

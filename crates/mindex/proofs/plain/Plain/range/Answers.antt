@@ -4,7 +4,7 @@ use Rattle.mi_base.specs.declared.records.Op.TheVariants as operation
 use Rattle.mi_base.specs.declared.records.Reply.TheVariants as reply
 use Rattle.mi_base.specs.Configuration.{metric_space}
 use Rattle.mi_base.specs.History.{live, updates_of, range_scan, at_position}
-use Rattle.mi_print.specs.Catalog.{opened, candidates, hull_after}
+use Rattle.mi_tree.specs.Catalog.{opened, candidates, hull_after}
 use Rattle.mindex.proofs.AnsweringLemmas.{unchanged}
 use Rattle.mindex.proofs.PlainLemmas.{length_live}
 use Rattle.mindex.proofs.QueryLemmas.{opened_is, candidates_are}

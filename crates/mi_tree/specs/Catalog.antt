@@ -5,7 +5,7 @@ use Rattle.mi_base.specs.declared.records.Update.{Update}
 use Rattle.mi_base.specs.declared.records.Update.TheVariants.{Insert, Delete}
 use Rattle.mi_base.specs.declared.records.LogEvent.{LogEvent}
 use Rattle.mi_base.specs.History.{Object, live, updates_of}
-use Rattle.mi_print.specs.declared.outcome.Leaf.{Leaf}
+use Rattle.mi_tree.specs.declared.outcomes.Leaf.{Leaf}
 
 abbrev pub is_insert : Update → Bool
 is_insert (Insert id vector) = true

@@ -11,7 +11,7 @@ use Rattle.mi_base.specs.declared.records.Reply.{Reply}
 use Rattle.mi_base.specs.declared.records.Reply.TheVariants.{Stored, Removed, Present, Absent, Range, Nearest}
 use Rattle.mi_base.specs.Configuration.{Configuration, metric_space}
 use Rattle.mi_base.specs.History.{Entered, entered, updates_of, events_at, is_live}
-use Rattle.mi_print.specs.Right.{Right}
+use Rattle.mi_tree.specs.Right.{Right}
 
 -- an event that may follow these updates: an insert of a vector that fits, whose identifier isn't live, or a delete
 -- of a live one; without pivots no cell is ever split

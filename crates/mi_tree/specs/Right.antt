@@ -11,7 +11,7 @@ use Rattle.mi_base.specs.declared.records.Position.{Position}
 use Rattle.mi_base.specs.declared.records.Row.{Row}
 use Rattle.mi_base.specs.Configuration.{Configuration, metric_space}
 use Rattle.mi_base.specs.History.{Entered, entered, updates_of, at_position, IsPosition, is_live, range_scan}
-use Rattle.mi_print.specs.Catalog.{opened, candidates}
+use Rattle.mi_tree.specs.Catalog.{opened, candidates}
 
 -- update number n of the log is this one
 pub record IsUpdateNumber (log : List LogEvent) (n : ℕ) (e : Entered) : Type 0 where

@@ -1,0 +1,4 @@
+pub mod Catalog
+pub mod InTurn
+pub mod Legal
+pub mod Right
