@@ -1,5 +1,5 @@
 -- Sending the text of each item of a list in turn.
-use Rattle.std.proofs.Common.{◌≡◌, ℕ, suc, ◌+◌, ◌<◌, List, [], ◌∷◌, ◌++◌, length, take, drop, get_or, Option, Result, Ok, Err, refl, sym, ap, ◌∙◌, arith, add-one, append_assoc, append-nil, length-append, map}
+use Rattle.std.proofs.Common.{◌≡◌, ℕ, suc, ◌+◌, ◌<◌, List, [], ◌∷◌, ◌++◌, length, take, drop, get_or, Option, Result, Ok, Err, sym, ap, ◌∙◌, arith, append-nil, length-append}
 use Rattle.std.specs.Prelude.{codes}
 use Rattle.std.specs.List.{flat_map}
 use Rattle.std.specs.Result.{IsErrAnd}
@@ -14,7 +14,7 @@ use Rattle.mi_base.specs.History.{updates_of}
 use Rattle.mi_base.proofs.HistoryLemmas.{updates_of-append}
 use Rattle.mi_outside.specs.declared.writing.SinkFailed.{SinkFailed}
 use Rattle.mi_outside.specs.Outside.{Sends}
-use Rattle.mi_outside.proofs.SendingLemmas.{sends_then, sends_then_is, sends_ended}
+use Rattle.mi_outside.proofs.SendingLemmas.{sends_then, sends_ended}
 use Rattle.mi_print.specs.Render.{session_lines, reply_lines, number_line}
 
 -- the items before a place, the one there, and those after it

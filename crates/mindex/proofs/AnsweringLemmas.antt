@@ -1,5 +1,5 @@
 -- One operation's answer, made of what was found and what was entered.
-use Rattle.std.proofs.Common.{◌≡◌, ℕ, ◌+◌, ◌-◌, ◌<◌, ◌≤◌, List, [], ◌∷◌, ◌++◌, map, length, take, get_or, Bool, true, false, Some, refl, sym, ap, ◌∙◌, subst, arith, length-append, append-nil}
+use Rattle.std.proofs.Common.{◌≡◌, ℕ, ◌+◌, ◌-◌, ◌<◌, ◌≤◌, List, [], ◌∷◌, ◌++◌, map, length, take, true, false, Some, refl, sym, ap, ◌∙◌, subst, arith, length-append, append-nil}
 use Rattle.std.specs.Prelude.{ℤ, IsTrue, slice_get}
 use Rattle.std.specs.List.{AllByRecursion}
 use Rattle.std.proofs.lemmas.List.{length-map}
@@ -19,7 +19,7 @@ use Rattle.mi_base.proofs.HistoryLemmas.{entered-append, updates_of-append}
 use Rattle.mi_tree.specs.Right.{Right, IsUpdateNumber, before}
 use Rattle.mi_tree.specs.Legal.{MayFollow, accepted}
 use Rattle.mi_tree.specs.InTurn.{BeganAt}
-use Rattle.mindex.specs.Answering.{Answers, event_of, gain}
+use Rattle.mindex.specs.Answering.{Answers, event_of}
 
 slice_get-append_seam : {X : Type 0} (xs : List X) (y : X) (ys : List X) → slice_get (xs ++ y ∷ ys) (length xs) ≡ Some y
 slice_get-append_seam xs y ys =

@@ -1,6 +1,6 @@
 -- What a call says and sends.
-use Rattle.std.proofs.Common.{◌≡◌, ℕ, zero, suc, ◌+◌, ◌<◌, ◌≤◌, List, [], ◌∷◌, ◌++◌, length, map, get_or, Bool, true, false, cond, Option, None, Some, Result, Ok, Err, refl, sym, ap, ◌∙◌, subst, arith, inl, inr, ◌⊎◌}
-use Rattle.std.specs.Prelude.{bytes_eq, codes, is_some, OnOk, OnErr, IsOk, IsTrue}
+use Rattle.std.proofs.Common.{◌≡◌, ℕ, zero, suc, ◌<◌, ◌≤◌, List, [], ◌∷◌, length, map, get_or, Bool, true, false, cond, Option, None, Some, Result, Ok, Err, refl, sym, ap, ◌∙◌, subst, arith, inl, inr, ◌⊎◌}
+use Rattle.std.specs.Prelude.{bytes_eq, codes, is_some, OnOk, OnErr, IsOk}
 use Rattle.mi_base.specs.declared.records.Op.{Op}
 use Rattle.mi_base.specs.declared.records.ScheduleItem.{ScheduleItem}
 use Rattle.mi_base.specs.Configuration.{Configuration}
@@ -9,8 +9,8 @@ use Rattle.mi_input.specs.Settings.{settings_in}
 use Rattle.mi_input.specs.Schedules.{schedule_in}
 use Rattle.mi_input.specs.Scripts.{script_in}
 use Rattle.mi_outside.specs.declared.writing.SinkFailed.{SinkFailed}
-use Rattle.mi_outside.specs.Outside.{Rose, Sends, Wrote, WroteFront}
-use Rattle.mi_outside.proofs.SendingLemmas.{Rose-later, Rose-earlier}
+use Rattle.mi_outside.specs.Outside.{Sends}
+use Rattle.mi_outside.proofs.SendingLemmas.{Rose-later}
 use Rattle.mi_tree.specs.declared.outcomes.Outcome.{Outcome}
 use Rattle.mi_tree.specs.Catalog.{catalog}
 use Rattle.mi_print.specs.Render.{transcript}
@@ -21,7 +21,7 @@ use Rattle.mindex.specs.declared.refusals.Refusal.TheVariants.{Record, Table}
 use Rattle.mindex.specs.declared.refusals.Stop.{Stop}
 use Rattle.mindex.specs.declared.refusals.Stop.TheVariants.{Refused, Unread, Memory}
 use Rattle.mindex.specs.declared.loading.Loaded.{Loaded}
-use Rattle.mindex.specs.Calls.{Answered, Ends, IsRefusal, IsRun, IsTranscript, IsUnread, IsWant, Replayed, RunsTo, Says, Serves, usage_line}
+use Rattle.mindex.specs.Calls.{Answered, Ends, IsWant, Replayed, RunsTo, Serves, usage_line}
 use Rattle.mindex.specs.Inputs.{AreTextsOf, GoodBefore, Inputs, Names, Texts, checked, in_file, inputs_of, names_in, schedule_of, script_of, settings_of}
 use Rattle.mindex.specs.Loading.{Finds, FindsAll, HasMetric, Loads, LoadsAll, MayRun, inputs_in, stop_line, stop_status}
 use Rattle.mindex.specs.Outcomes.{IsOutcomeOf}

@@ -1,12 +1,11 @@
 -- What is right in a log is right in one that goes on.
-use Rattle.std.proofs.Common.{◌≡◌, ℕ, ◌+◌, ◌-◌, ◌<◌, ◌≤◌, List, [], ◌∷◌, ◌++◌, map, length, take, Bool, true, false, Some, refl, sym, ap, ◌∙◌, subst, arith, length-append, append-nil}
+use Rattle.std.proofs.Common.{◌≡◌, ℕ, ◌+◌, ◌-◌, ◌<◌, ◌≤◌, List, [], ◌∷◌, ◌++◌, length, take, Some, refl, sym, ap, ◌∙◌, arith, length-append, append-nil}
 use Rattle.std.specs.Prelude.{ℤ, slice_get}
 use Rattle.std.proofs.lemmas.List.{take-append-le}
 use Rattle.std.proofs.lemmas.Option.{slice_get_within, slice_get_read, slice_get-get_or}
 use Rattle.std.proofs.Common.{get_or}
 use Rattle.std.proofs.Math.ListN.{get_or-append}
 use Rattle.mi_base.specs.declared.records.LogEvent.{LogEvent}
-use Rattle.mi_base.specs.declared.records.Update.{Update}
 use Rattle.mi_base.specs.declared.records.Op.{Op}
 use Rattle.mi_base.specs.declared.records.Op.TheVariants.{Insert, Delete, Range}
 use Rattle.mi_base.specs.declared.records.Reply.{Reply}
@@ -17,7 +16,7 @@ use Rattle.mi_base.specs.Configuration.{Configuration, metric_space}
 use Rattle.mi_base.specs.History.{Entered, entered, updates_of, is_live, events_at, at_position, IsPosition, range_scan}
 use Rattle.mi_base.proofs.HistoryLemmas.{entered-append, updates_of-append}
 use Rattle.mi_tree.specs.Catalog.{opened, candidates}
-use Rattle.mi_tree.specs.Right.{Right, IsUpdateNumber, IsRange, before, history_at}
+use Rattle.mi_tree.specs.Right.{Right, IsUpdateNumber, IsRange, before}
 use Rattle.mindex.proofs.AnsweringLemmas.{length-updates_of}
 
 -- a prefix of a log is the same prefix of one that goes on

@@ -1,6 +1,6 @@
 -- What reading one file says.
-use Rattle.std.proofs.Common.{◌≡◌, ℕ, zero, suc, ◌+◌, ◌<◌, ◌≤◌, List, [], ◌∷◌, ◌++◌, length, Bool, true, false, cond, Option, None, Some, Result, Ok, Err, nat_le, refl, sym, ap, ◌∙◌, subst, arith}
-use Rattle.std.specs.Prelude.{IfSome, unwrap_or}
+use Rattle.std.proofs.Common.{◌≡◌, ℕ, zero, suc, ◌<◌, ◌≤◌, List, [], ◌∷◌, length, true, false, cond, Option, None, Some, Result, Ok, Err, nat_le, refl, ap, ◌∙◌, arith}
+use Rattle.std.specs.Prelude.{unwrap_or}
 use Rattle.std.proofs.lemmas.Bool.Decides.{nat_tests}
 use Rattle.mi_input.specs.declared.faults.Reason.TheVariants as reason
 use Rattle.mi_input.specs.declared.faults.InputFault.{InputFault}
@@ -8,8 +8,7 @@ use Rattle.mi_input.specs.declared.faults.InputFault.TheVariants.{Bad, Memory}
 use Rattle.mi_input.specs.Faults.{Fault, IsFaultOf}
 use Rattle.mi_outside.specs.declared.reading.ReadRefusal.{ReadRefusal}
 use Rattle.mi_outside.specs.declared.reading.ReadRefusal.TheVariants as read
-use Rattle.mi_outside.specs.Outside.{Reads, RefusesRead, Rose}
-use Rattle.mindex.specs.declared.refusals.Refusal.{Refusal}
+use Rattle.mi_outside.specs.Outside.{Reads, RefusesRead}
 use Rattle.mindex.specs.declared.refusals.Refusal.TheVariants.{Record}
 use Rattle.mindex.specs.Inputs.{IsTextOf, in_file, located}
 use Rattle.mindex.specs.Loading.{Loads, fault_stop, refusal_stop}

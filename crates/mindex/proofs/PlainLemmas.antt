@@ -1,9 +1,9 @@
 -- A map's entries stand for the live objects.
-use Rattle.std.proofs.Common.{◌≡◌, ◌≢◌, ℕ, ◌+◌, ◌<◌, ◌≤◌, List, [], ◌∷◌, ◌++◌, map, length, Bool, true, false, cond, not, ◌||◌, Option, Some, None, refl, sym, ap, ◌∙◌, subst, arith}
-use Rattle.std.specs.Prelude.{ℤ, ◌==◌, is_some, IsTrue}
+use Rattle.std.proofs.Common.{◌≡◌, ℕ, ◌+◌, ◌≤◌, List, [], ◌∷◌, ◌++◌, map, length, Bool, true, false, cond, not, ◌||◌, Option, Some, None, refl, sym, ap, ◌∙◌, subst, arith}
+use Rattle.std.specs.Prelude.{ℤ, ◌==◌, is_some}
 use Rattle.std.specs.declared.cmp.Ordering.{Ordering}
 use Rattle.std.specs.declared.cmp.Ordering.TheVariants.{Less, Equal, Greater}
-use Rattle.std.specs.List.{sum_by, filter, list_any, list_all, fold}
+use Rattle.std.specs.List.{sum_by, filter, list_any, fold}
 use Rattle.std.specs.Ordering.{nat_cmp, is_eq, match_ordering}
 use Rattle.std.specs.Map.{lookup, remove_entry}
 use Rattle.std.specs.BTreeMap.{is_at, insert_entry}
@@ -13,10 +13,10 @@ use Rattle.std.proofs.lemmas.List.Folds.{list_any-append}
 use Rattle.std.proofs.lemmas.List.{length-map}
 use Rattle.mi_base.specs.declared.records.Update.{Update}
 use Rattle.mi_base.specs.declared.records.Update.TheVariants.{Insert, Delete}
-use Rattle.mi_base.specs.History.{Object, live, live_after, is_among, is_live}
+use Rattle.mi_base.specs.History.{Object, live, live_after, is_among}
 use Rattle.mi_base.specs.Sorting.{SameElements}
 use Rattle.mi_base.proofs.SortingLemmas.{same_filter, same_length}
-use Rattle.mi_base.proofs.HistoryLemmas.{live-append, same_any}
+use Rattle.mi_base.proofs.HistoryLemmas.{live-append}
 use Rattle.mi_tree.specs.Catalog.{hull_after, is_insert}
 use Rattle.mindex.specs.Plain.{object_in}
 

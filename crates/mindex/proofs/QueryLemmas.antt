@@ -1,7 +1,7 @@
 -- What a scan of a map's entries answers.
-use Rattle.std.proofs.Common.{◌≡◌, ℕ, ◌+◌, ◌≤◌, List, [], ◌∷◌, ◌++◌, map, length, Bool, true, false, cond, ◌||◌, Option, Some, None, refl, sym, ap, ◌∙◌, subst, arith, append-nil}
+use Rattle.std.proofs.Common.{◌≡◌, ℕ, ◌+◌, List, [], ◌∷◌, ◌++◌, map, Bool, true, false, cond, ◌||◌, Some, None, refl, sym, ap, ◌∙◌, arith, append-nil}
 use Rattle.std.specs.Prelude.{ℤ, is_some, IsTrue}
-use Rattle.std.specs.List.{filter, list_any, list_all, fold, count_by}
+use Rattle.std.specs.List.{filter, list_any, list_all, fold}
 use Rattle.std.proofs.lemmas.List.Folds.{list_all-map}
 use Rattle.mi_base.specs.declared.records.LogEvent.{LogEvent}
 use Rattle.mi_base.specs.declared.records.Update.{Update}
@@ -11,7 +11,7 @@ use Rattle.mi_base.specs.Space.{MetricSpace}
 use Rattle.mi_base.specs.History.{Object, live, live_after, updates_of, hits, row_cmp, range_scan}
 use Rattle.mi_base.specs.Sorting.{sorted, SameElements}
 use Rattle.mi_base.proofs.HistoryLemmas.{sorted-hits, same_all}
-use Rattle.mi_tree.specs.Catalog.{catalog, passes, opened, candidates, hull_after, is_insert}
+use Rattle.mi_tree.specs.Catalog.{opened, candidates, hull_after, is_insert}
 use Rattle.mindex.specs.Plain.{object_in}
 use Rattle.mindex.specs.Answering.{AllFit}
 

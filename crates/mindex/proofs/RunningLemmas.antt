@@ -1,6 +1,5 @@
 -- Operations one after another make a legal outcome.
-use Rattle.std.proofs.Common.{◌≡◌, ℕ, zero, suc, ◌+◌, ◌-◌, ◌<◌, ◌≤◌, ◌==◌, ◌&&◌, ◌||◌, cond, not, List, [], ◌∷◌, ◌++◌, map, length, take, Bool, true, false, Some, refl, sym, ap, ◌∙◌, subst, arith, length-append, append-nil, append_assoc}
-use Rattle.std.specs.Prelude.{ℤ, IsTrue}
+use Rattle.std.proofs.Common.{◌≡◌, ℕ, zero, suc, ◌+◌, ◌<◌, ◌≤◌, ◌==◌, ◌&&◌, ◌||◌, cond, not, List, [], ◌∷◌, ◌++◌, map, length, Bool, true, false, refl, sym, ap, ◌∙◌, subst, arith, length-append, append-nil, append_assoc}
 use Rattle.std.specs.List.{AllByRecursion, filter, list_all, list_any}
 use Rattle.std.proofs.lemmas.Bool.{and_parts}
 use Rattle.mi_base.specs.declared.records.Update.TheVariants as update
@@ -17,8 +16,8 @@ use Rattle.mi_tree.specs.Catalog.{catalog}
 use Rattle.mindex.specs.Outcomes.{IsFinished, IsOutcomeOf, has_memory, is_memory}
 use Rattle.mi_base.proofs.HistoryLemmas.{entered-append, updates_of-append, live-append}
 use Rattle.mi_tree.specs.Right.{Right}
-use Rattle.mi_tree.specs.Legal.{MayFollow, EachMayFollow, LegalLog, EachRight, AllRight, accepted, accepted_in, AllEntered, events_to, reach, NeverFalls, Legal}
-use Rattle.mi_tree.specs.InTurn.{place, BeganAt, updates_after, InTurn, AloneInTurn}
+use Rattle.mi_tree.specs.Legal.{MayFollow, EachMayFollow, EachRight, accepted, accepted_in, events_to, NeverFalls, Legal}
+use Rattle.mi_tree.specs.InTurn.{updates_after, InTurn, AloneInTurn}
 use Rattle.mindex.specs.Answering.{AllFit, Answers, Ran, event_of, gain}
 use Rattle.mindex.proofs.AnsweringLemmas.{length-updates_of}
 use Rattle.mindex.proofs.GrowingLemmas.{right_grows}

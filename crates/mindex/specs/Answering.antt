@@ -6,7 +6,7 @@ use Rattle.mi_base.specs.declared.records.LogEvent.TheVariants as event
 use Rattle.mi_base.specs.declared.records.Op.{Op}
 use Rattle.mi_base.specs.declared.records.Reply.{Reply}
 use Rattle.mi_base.specs.Space.{MetricSpace}
-use Rattle.mi_base.specs.Configuration.{Configuration, metric_space}
+use Rattle.mi_base.specs.Configuration.{Configuration}
 use Rattle.mi_base.specs.History.{Entered, live, updates_of}
 use Rattle.mi_tree.specs.Right.{Right}
 use Rattle.mi_tree.specs.Legal.{MayFollow, accepted}

@@ -1,9 +1,8 @@
 -- What the words and the files of a call say.
-use Rattle.std.specs.Prelude.{◌≡◌, ℕ, zero, suc, ◌<◌, ◌≤◌, List, [], ◌∷◌, length, bytes_eq, codes, Bool, Option, Some, None, IfSome, Result, Ok, Err, IsOk, nat_le, if◌then◌else◌}
+use Rattle.std.specs.Prelude.{◌≡◌, ℕ, zero, suc, List, [], ◌∷◌, length, bytes_eq, codes, Option, Some, None, IfSome, Result, Ok, Err, IsOk, nat_le, if◌then◌else◌}
 use Rattle.mi_base.specs.declared.records.Op.{Op}
 use Rattle.mi_base.specs.declared.records.ScheduleItem.{ScheduleItem}
 use Rattle.mi_base.specs.Configuration.{Configuration}
-use Rattle.mi_input.specs.declared.faults.Reason.{Reason}
 use Rattle.mi_input.specs.declared.faults.Reason.TheVariants.{Large}
 use Rattle.mi_input.specs.Faults.{Fault, ◌>>=◌}
 use Rattle.mi_input.specs.Settings.{settings_in}

@@ -1,7 +1,5 @@
 -- How the files of a call are read and found good or not.
 use Rattle.std.specs.Prelude.{◌≡◌, ℕ, ◌≤◌, [], List, Option, None, Some, Result, Ok, Err}
-use Rattle.mi_base.specs.declared.records.Op.{Op}
-use Rattle.mi_base.specs.declared.records.ScheduleItem.{ScheduleItem}
 use Rattle.mi_base.specs.Configuration.{Configuration, metric_space}
 use Rattle.mi_base.specs.Scripts.{IsScriptOver}
 use Rattle.mi_input.specs.declared.faults.Reason.TheVariants as reason
@@ -11,7 +9,6 @@ use Rattle.mi_input.specs.Scripts.{AreServed}
 use Rattle.mi_outside.specs.declared.reading.ReadRefusal.{ReadRefusal}
 use Rattle.mi_outside.specs.declared.reading.ReadRefusal.TheVariants as read
 use Rattle.mi_outside.specs.Outside.{Rose}
-use Rattle.mi_table.specs.declared.faults.TableFault.{TableFault}
 use Rattle.mi_table.specs.declared.any.AnyMetric.{AnyMetric}
 use Rattle.mi_table.specs.Any.{any_space}
 use Rattle.mi_table.specs.Faults.{first_fault}

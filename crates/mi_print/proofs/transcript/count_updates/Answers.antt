@@ -1,4 +1,4 @@
-use Rattle.std.proofs.Common.{◌≡◌, ◌+◌, ◌++◌, ◌∷◌, [], length, take, get_or, ap, sym, ◌∙◌, refl, arith}
+use Rattle.std.proofs.Common.{◌++◌, ◌∷◌, [], length, take, ap, sym, ◌∙◌, refl, arith}
 use Rattle.std.proofs.lemmas.List.{take_more}
 use Rattle.mi_base.specs.History.{updates_of}
 use Rattle.mi_print.proofs.LoopLemmas.{updates_of-update, updates_of-split}

@@ -1,8 +1,7 @@
-use Rattle.std.proofs.Common.{refl, ap, sym, ◌∙◌, ◌++◌}
+use Rattle.std.proofs.Common.{ap, sym, ◌∙◌, ◌++◌}
 use Rattle.std.specs.Prelude.{[], ◌∷◌, codes, length}
 use Rattle.std.specs.List.{flat_map}
 use Rattle.std.specs.Prelude.{◌-◌}
-use Rattle.mi_base.specs.History.{updates_of}
 use Rattle.mi_print.specs.Render.{number_line, event_line}
 use Rattle.mi_outside.proofs.SendingLemmas.{sends_ended, sends_then_is}
 use Rattle.mi_print.proofs.transcript.send_history.Goals as goal

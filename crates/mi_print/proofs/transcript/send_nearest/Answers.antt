@@ -1,5 +1,5 @@
-use Rattle.std.proofs.Common.{refl, ap, sym, ◌∙◌, ◌++◌}
-use Rattle.std.specs.Prelude.{[], ◌∷◌, codes, length}
+use Rattle.std.proofs.Common.{ap, sym, ◌++◌}
+use Rattle.std.specs.Prelude.{[], ◌∷◌, codes}
 use Rattle.mi_print.specs.Render.{number_line, row_lines}
 use Rattle.mi_outside.proofs.SendingLemmas.{sends_ended, sends_then_is}
 use Rattle.mi_print.proofs.transcript.send_nearest.Goals as goal

@@ -1,6 +1,3 @@
-use Rattle.std.proofs.Common.{◌≡◌, ◌∙◌, ap, subst, List}
-use Rattle.std.specs.List.{flat_map}
-use Rattle.mi_outside.specs.Outside.{Sends}
 use Rattle.mi_print.specs.Render.{reply_lines}
 use Rattle.mi_print.proofs.LoopLemmas.{sends_each_ended}
 use Rattle.mi_print.proofs.transcript.send_replies.Goals as goal

@@ -1,4 +1,4 @@
-use Rattle.std.proofs.Common.{◌≡◌, ◌+◌, ◌++◌, ◌∙◌, ap, sym, drop, append_assoc, refl}
+use Rattle.std.proofs.Common.{◌+◌, ◌++◌, ◌∙◌, ap, sym, drop, append_assoc, refl}
 use Rattle.mi_outside.proofs.SendingLemmas.{sends_ended, sends_then}
 use Rattle.mi_print.specs.Render.{session_lines}
 use Rattle.mi_print.proofs.LoopLemmas.{session_text, session_lines-drop}

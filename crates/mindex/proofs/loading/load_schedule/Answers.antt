@@ -1,7 +1,7 @@
-use Rattle.std.proofs.Common.{◌≡◌, [], subst, sym, ◌∙◌}
+use Rattle.std.proofs.Common.{[], subst, sym}
 use Rattle.mi_input.specs.Schedules.{schedule_in}
 use Rattle.mi_outside.specs.Outside.{Reads}
-use Rattle.mindex.proofs.LoadingLemmas.{loads_fault, loads_ok, loads_refused}
+use Rattle.mindex.proofs.LoadingLemmas.{loads_fault, loads_refused}
 use Rattle.mindex.proofs.loading.load_schedule.Goals as goal
 
 pub returns-in-Ok-clause-loads : goal.returns-in-Ok-clause-loads

@@ -1,6 +1,4 @@
-use Rattle.std.proofs.Common.{◌≡◌, ◌∙◌, ◌<◌, Some, map, length, get_or, [], ap, sym, arith, refl}
-use Rattle.std.specs.Prelude.{List, ℕ}
-use Rattle.std.proofs.lemmas.List.{length-map}
+use Rattle.std.proofs.Common.{◌∙◌, map, sym, arith}
 use Rattle.std.specs.String.{string_bytes}
 use Rattle.mindex.specs.Calls.{usage_line}
 use Rattle.mindex.specs.Inputs.{Names, names_in}

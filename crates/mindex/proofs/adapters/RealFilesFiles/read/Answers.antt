@@ -1,4 +1,4 @@
-use Rattle.std.proofs.Common.{◌≡◌, ◌++◌, ◌∙◌, ap, drop, length, sym, arith, length-drop}
+use Rattle.std.proofs.Common.{◌++◌, ◌∙◌, ap, drop, length, sym, arith, length-drop}
 use Rattle.std.proofs.lemmas.List.{take-append-drop}
 use Rattle.mindex.proofs.adapters.RealFilesFiles.read.Goals as goal
 

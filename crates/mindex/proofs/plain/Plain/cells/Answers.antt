@@ -1,6 +1,6 @@
-use Rattle.std.proofs.Common.{◌≡◌, ◌≤◌, List, ◌++◌, ◌∷◌, [], ◌∙◌, ap, sym, arith, length}
+use Rattle.std.proofs.Common.{List, ◌++◌, ◌∷◌, [], ◌∙◌, ap, arith, length}
 use Rattle.mi_base.specs.History.{live, updates_of}
-use Rattle.mi_tree.specs.Catalog.{catalog, hull_after}
+use Rattle.mi_tree.specs.Catalog.{catalog}
 use Rattle.mi_tree.specs.declared.outcomes.Leaf.{Leaf}
 use Rattle.mindex.proofs.PlainLemmas.{length_live, few_live}
 use Rattle.mindex.proofs.plain.Plain.cells.Goals as goal

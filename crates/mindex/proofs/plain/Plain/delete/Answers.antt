@@ -1,4 +1,4 @@
-use Rattle.std.proofs.Common.{◌≡◌, ◌<◌, ◌∙◌, sym, false, arith, length, nat_le}
+use Rattle.std.proofs.Common.{◌<◌, ◌∙◌, sym, arith, length}
 use Rattle.std.proofs.lemmas.Bool.Decides.{nat_tests}
 use Rattle.mi_base.specs.History.{updates_of}
 use Rattle.mindex.proofs.AnsweringLemmas.{delete_answered}

@@ -1,5 +1,5 @@
-use Rattle.std.proofs.Common.{◌≡◌, ◌+◌, ◌++◌, [], ◌∷◌, ◌∙◌, Option, Some, None, Bool, true, false, ap, sym, subst, arith, length, length-append, map}
-use Rattle.std.specs.Prelude.{◌==◌, is_some}
+use Rattle.std.proofs.Common.{◌≡◌, ◌++◌, [], ◌∷◌, ◌∙◌, None, false, ap, sym, subst, arith, length, length-append, map}
+use Rattle.std.specs.Prelude.{◌==◌}
 use Rattle.std.specs.Map.{lookup}
 use Rattle.std.specs.BTreeMap.{is_at, insert_entry}
 use Rattle.std.specs.Ordering.{nat_cmp}
@@ -9,7 +9,7 @@ use Rattle.mi_base.specs.History.{is_live, live, updates_of}
 use Rattle.mi_base.specs.Sorting.{SameElements}
 use Rattle.mi_base.proofs.HistoryLemmas.{same_any, updates_of-append}
 use Rattle.mi_tree.specs.Catalog.{hull_after}
-use Rattle.mindex.specs.Plain.{object_in, IsPlain}
+use Rattle.mindex.specs.Plain.{object_in}
 use Rattle.mindex.proofs.AnsweringLemmas.{length-gained}
 use Rattle.mindex.proofs.PlainLemmas.{found, absent_looked_up, same_inserted, hull_inserted}
 use Rattle.mindex.proofs.plain.Plain.enter_insert.Goals as goal

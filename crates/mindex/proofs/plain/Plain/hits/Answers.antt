@@ -1,4 +1,4 @@
-use Rattle.std.proofs.Common.{◌≡◌, ◌+◌, ◌∙◌, [], ap, refl, sym, subst, arith, length}
+use Rattle.std.proofs.Common.{◌≡◌, ◌∙◌, ap, refl, sym, subst, arith, length}
 use Rattle.mi_base.specs.Configuration.{metric_space}
 use Rattle.mi_base.specs.History.{live, updates_of, range_scan}
 use Rattle.mindex.specs.Answering.{AllFit}

@@ -1,9 +1,9 @@
-use Rattle.std.proofs.Common.{◌≡◌, ◌+◌, ◌∙◌, List, ap, refl, sym, arith, length, cond}
+use Rattle.std.proofs.Common.{◌≡◌, ◌∙◌, ap, refl, sym, arith, length, cond}
 use Rattle.std.specs.Prelude.{is_some}
 use Rattle.mi_base.specs.declared.records.Op.TheVariants as operation
 use Rattle.mi_base.specs.declared.records.Reply.TheVariants as reply
 use Rattle.mi_base.specs.Configuration.{metric_space}
-use Rattle.mi_base.specs.History.{live, updates_of, range_scan, at_position}
+use Rattle.mi_base.specs.History.{live, updates_of, range_scan}
 use Rattle.mi_tree.specs.Catalog.{opened, candidates, hull_after}
 use Rattle.mindex.proofs.AnsweringLemmas.{unchanged}
 use Rattle.mindex.proofs.PlainLemmas.{length_live}
