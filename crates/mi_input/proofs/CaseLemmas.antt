@@ -29,7 +29,7 @@ pub limited_ok : {X : Type 0} (most number : ℕ) (r : Result X Reason) (x : X) 
 limited_ok most number r x h = elim (chosen (nat_le number most) r (Err Limit) (Ok x) h) [
   | inl few ↦ (le_of number most few.0, few.1)
   | inr many ↦ cc many.1
-  ]
+]
 
 pub at_record_ok : {X : Type 0} (number : ℕ) (r : Result X Reason) (x : X) → at_record number r ≡ Ok x → r ≡ Ok x
 at_record_ok number (Ok y) x h = let e : y ≡ x = cc in ap Ok e

@@ -1,9 +1,9 @@
 -- How csv's machine goes from record to record.
-use Rattle.std.proofs.Common.{◌≡◌, ℕ, zero, suc, ◌+◌, ◌≤◌, ◌<◌, ◌==◌, ◌||◌, ◌⊎◌, inl, inr, cond, subst, Bool, true, false, List, [], ◌∷◌, ◌++◌, length, Option, Some, None, IsSome, refl, sym, ap, ◌∙◌, arith, add-one, true≢false}
+use Rattle.std.proofs.Common.{◌≡◌, ℕ, zero, suc, ◌+◌, ◌≤◌, ◌<◌, ◌==◌, ◌||◌, inl, inr, cond, subst, Bool, true, false, List, [], ◌∷◌, ◌++◌, length, Option, Some, None, IsSome, refl, sym, ap, ◌∙◌, arith, add-one, true≢false}
 use Rattle.std.proofs.lemmas.Bool.{false≢true}
 use denote.Ref.{Bor}
 use Rattle.csv.specs.Machine.{Read, ends_at_end, field_after, fields_after, in_field, is_end, next_record, start_field, start_record, step}
-use Rattle.csv.specs.Reading.{Reached, ReadRecord, default_config, reader_state, records_from, records_next, source_of}
+use Rattle.csv.specs.Reading.{Reached, ReadRecord, default_config, is_flexible, reader_state, records_from, records_next, source_of}
 use Rattle.csv.specs.declared.parser.State.{State}
 use Rattle.csv.specs.declared.parser.State.TheVariants as st
 use Rattle.csv.specs.declared.parser.Action.{Action}
@@ -61,19 +61,19 @@ takes_some s fields field [] p h = elim (chosen (ends_at_end s) (Some (fields ++
       let e = some_same (fields ++ (field ∷ []), st.StartRecord, []) p at_end.1 in
       subst (λ (q : Read). Leaves s [] q) e (omega arith, (λ between. absurd (true≢false (sym at_end.0 ∙ between))), refl)
   | inr none ↦ cc none.1
-  ]
+]
 takes_some s fields field (c ∷ rest) p h =
     let s2 = (step default_config s c).0 in
     let f2 = fields_after (step default_config s c).1 fields field in
     let g2 = field_after (step default_config s c).1 c field in
     elim (chosen (is_end (step default_config s c).1) (Some (f2, s2, rest)) (next_record default_config s2 f2 g2 rest) (Some p) h) [
-  | inl ended ↦
-      let e = some_same (f2, s2, rest) p ended.1 in
-      subst (λ (q : Read). Leaves s (c ∷ rest) q) e (omega arith, (λ between. omega arith), ends_between s c ended.0)
-  | inr more ↦
-      let t : Leaves s2 rest p = takes_some s2 f2 g2 rest p more.1 in
-      (omega (arith, t.0), (λ between. omega (arith, t.0)), t.2)
-  ]
+      | inl ended ↦
+          let e = some_same (f2, s2, rest) p ended.1 in
+          subst (λ (q : Read). Leaves s (c ∷ rest) q) e (omega arith, (λ between. omega arith), ends_between s c ended.0)
+      | inr more ↦
+          let t : Leaves s2 rest p = takes_some s2 f2 g2 rest p more.1 in
+          (omega (arith, t.0), (λ between. omega (arith, t.0)), t.2)
+    ]
 
 same_next : (n m : ℕ) (o : Option Read) → ((p : Read) → o ≡ Some p → records_from default_config n p.1 p.2 ≡ records_from default_config m p.1 p.2)
     → records_next (records_from default_config n) o ≡ records_next (records_from default_config m) o
@@ -88,8 +88,8 @@ same_records zero m s bytes between h k = absurd (omega arith)
 same_records (suc n) zero s bytes between h k = absurd (omega arith)
 same_records (suc n) (suc m) s bytes between h k =
     same_next n m (next_record default_config s [] [] bytes) (λ p e.
-      let t = takes_some s [] [] bytes p e in
-      same_records n m p.1 p.2 t.2 (omega (arith, t.1 between)) (omega (arith, t.1 between)))
+    let t = takes_some s [] [] bytes p e in
+    same_records n m p.1 p.2 t.2 (omega (arith, t.1 between)) (omega (arith, t.1 between)))
 
 -- the records left are the next one and those left after it
 pub left_more : (s : State) (bytes : List ℕ) (p : Read) → ends_at_end s ≡ false → next_record default_config s [] [] bytes ≡ Some p
@@ -116,24 +116,26 @@ known_some : {X : Type 0} (o : Option X) (x : X) → o ≡ Some x → IsSome o
 known_some o x h = rw h refl
 
 -- what a read of a record does to the records that are left
-pub took : (old new : Reader (Bor (List ℕ))) (found : Bool) (fields : List (List ℕ)) → IsBetweenRecords old → ReadRecord (λ bytes. Some bytes.now) old new found fields
+pub took : (old new : Reader (Bor (List ℕ))) (found : Bool) (fields : List (List ℕ)) → IsBetweenRecords old → is_flexible new ≡ is_flexible old → ReadRecord (λ bytes. Some bytes.now) old new found fields
     → (records_of old ≡ records_at found fields new) × (found ≡ true → IsBetweenRecords new)
 unfolding Reached
-took old new false fields between read =
+took old new false fields between flexible read =
     let k = some_value (source_of (λ bytes. Some bytes.now) old) between.known in
     let none = rows-end (λ bytes. Some bytes.now) old new fields default_config k.0 between.config k.1 read in
     (rw k.1 (left_none (reader_state old) k.0 none), (λ h. absurd (false≢true h)))
-took old new true fields between read =
+took old new true fields between flexible read =
     let k = some_value (source_of (λ bytes. Some bytes.now) old) between.known in
     let m = rows-more (λ bytes. Some bytes.now) old new fields default_config (reader_state old) k.0 k.0 [] between.config k.1 (refl, refl) read in
     let p = m.2.0 in
     let next = m.2.1 in
     let left = takes_some (reader_state old) [] [] k.0 p next in
-    let state : p.1 ≡ reader_state new = m.2.3.0 in
-    (went_on (reader_state old) (reader_state new) k.0 m.0 _ _ fields p k.1 m.1 between.state next m.2.2 state m.2.3.1,
-     (λ h. record {
-       trim = read.3 ∙ between.trim;
-       config = read.2 ∙ between.config;
-       state = subst (λ (s : State). ends_at_end s ≡ false) state left.2;
-       known = known_some _ m.0 m.1;
-     }))
+    let state : p.1 ≡ reader_state new = m.2.3.0 in (
+      went_on (reader_state old) (reader_state new) k.0 m.0 _ _ fields p k.1 m.1 between.state next m.2.2 state m.2.3.1,
+      (λ h. record {
+        trim = read.3 ∙ between.trim;
+        flexible = flexible ∙ between.flexible;
+        config = read.2 ∙ between.config;
+        state = subst (λ (s : State). ends_at_end s ≡ false) state left.2;
+        known = known_some _ m.0 m.1;
+      }),
+    )

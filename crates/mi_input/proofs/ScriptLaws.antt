@@ -1,8 +1,7 @@
 -- What is read as a script may stand in one.
-use Rattle.std.proofs.Common.{◌≡◌, ℕ, zero, suc, ℤ, pos, negsuc, neg_ℤ, ◌≤ℤ◌, ◌+◌, ◌-◌, ◌^◌, ◌==◌, ◌&&◌, ◌≤◌, ◌<◌, Bool, true, false, IsTrue, List, [], ◌∷◌, length, drop, Option, Some, None, Result, Ok, Err, int_le, nat_lt, unsigned_abs, ◌⊎◌, inl, inr, refl, sym, ap, ◌∙◌, arith, lit≤, length-drop}
+use Rattle.std.proofs.Common.{◌≡◌, ℕ, ℤ, pos, negsuc, neg_ℤ, ◌≤ℤ◌, ◌+◌, ◌-◌, ◌^◌, ◌==◌, ◌&&◌, ◌≤◌, ◌<◌, true, IsTrue, List, [], ◌∷◌, length, drop, Option, Some, None, Result, Ok, Err, int_le, unsigned_abs, inl, inr, refl, ◌∙◌, arith, lit≤, length-drop}
 use Rattle.std.specs.List.{AllByRecursion}
 use Rattle.std.proofs.lemmas.Bool.{eq-eqb, eqb-true, lt-ltb}
-use Rattle.std.proofs.lemmas.Bool.Decides.{nat_tests}
 use Rattle.std.proofs.lemmas.Int.{ints}
 use Rattle.mi_base.specs.declared.records.Op.{Op}
 use Rattle.mi_base.specs.declared.records.Op.TheVariants.{Insert, Delete, Range}
@@ -11,11 +10,10 @@ use Rattle.mi_base.specs.declared.settings.MetricKind.TheVariants.{L1, Max, Hamm
 use Rattle.mi_base.specs.Configuration.{Configuration, HasItsRows, IsWithinLimits, metric_space}
 use Rattle.mi_base.specs.Scripts.{IsOpOver, IsScriptOver}
 use Rattle.mi_base.specs.Space.{has_dims, is_row, metric_of}
-use Rattle.mi_base.specs.Vectors.{all_coordinates, is_coordinate}
+use Rattle.mi_base.specs.Vectors.{all_coordinates}
 use Rattle.mi_input.specs.declared.faults.Reason.{Reason}
 use Rattle.mi_input.specs.declared.faults.Reason.TheVariants.{Fields, Range as OutOfRange}
-use Rattle.mi_input.specs.declared.vectors.Shape.{Shape}
-use Rattle.mi_input.specs.Faults.{Fault, ◌>>=◌, at_record}
+use Rattle.mi_input.specs.Faults.{◌>>=◌, at_record}
 use Rattle.mi_input.specs.Numbers.{bounded, count_in, number_in, whole_in}
 use Rattle.mi_input.specs.Records.{each, field_in}
 use Rattle.mi_input.specs.Scripts.{AreServed, IsServed, delete_in, highest, id_in, insert_in, lowest, op_in, range_in, script_from, shape_of, vector_in}
@@ -41,7 +39,7 @@ bounded_ok least most (Some n) z h = elim (chosen (int_le least n && int_le n mo
       let e : n ≡ z = ok_same n z within.1 in
       rw (← e) (int_le_of least n t.0, int_le_of n most t.1)
   | inr outside ↦ cc outside.1
-  ]
+]
 
 whole_ok : (least most : ℤ) (field : List ℕ) (z : ℤ) → whole_in least most field ≡ Ok z → (least ≤ℤ z) × (z ≤ℤ most)
 unfolding whole_in
@@ -118,7 +116,7 @@ insert_over c fields op within h = elim (chosen (length fields == c.dims + 2) _ 
       let (v, second, e) = bind_ok (vector_in (shape_of c) (drop 2 fields)) (λ v. Ok (Insert id v)) op more in
       rw (← ok_same (Insert id v) op e) (id_small (field_in 1 fields) id first, vector_fits c (drop 2 fields) v within (rest_length fields c.dims full.0) second)
   | inr other ↦ cc other.1
-  ]
+]
 
 delete_over : (c : Configuration) (fields : List (List ℕ)) (op : Op) → delete_in fields ≡ Ok op → IsOpOver (metric_space c) op
 unfolding delete_in
@@ -127,7 +125,7 @@ delete_over c fields op h = elim (chosen (length fields == 2) _ (Err Fields) (Ok
       let (id, first, e) = bind_ok (id_in (field_in 1 fields)) (λ id. Ok (Delete id)) op full.1 in
       rw (← ok_same (Delete id) op e) (id_small (field_in 1 fields) id first)
   | inr other ↦ cc other.1
-  ]
+]
 
 range_over : (c : Configuration) (fields : List (List ℕ)) (op : Op) → IsWithinLimits c → range_in (shape_of c) fields ≡ Ok op → IsOpOver (metric_space c) op
 unfolding range_in
@@ -139,16 +137,18 @@ range_over c fields op within h = elim (chosen (length fields == c.dims + 2) _ (
       let small : radius < 2 ^ 31 = omega (arith, t.1) in
       rw (← ok_same (Range radius v) op e) (small, vector_fits c (drop 2 fields) v within (rest_length fields c.dims full.0) second)
   | inr other ↦ cc other.1
-  ]
+]
 
 op_over : (c : Configuration) (number : ℕ) (fields : List (List ℕ)) (op : Op) → IsWithinLimits c → op_in (shape_of c) number fields ≡ Ok op
     → (number ≤ 200000) × IsOpOver (metric_space c) op
 op_over c number fields op within h =
-    let o = op_ok (shape_of c) number fields op h in
-    (o.0, elim o.1 [
-      | inl inserts ↦ insert_over c fields op within inserts
-      | inr others ↦ elim others [ inl deletes ↦ delete_over c fields op deletes | inr ranges ↦ range_over c fields op within ranges ]
-    ])
+    let o = op_ok (shape_of c) number fields op h in (
+      o.0,
+      elim o.1 [
+        | inl inserts ↦ insert_over c fields op within inserts
+        | inr others ↦ elim others [ inl deletes ↦ delete_over c fields op deletes | inr ranges ↦ range_over c fields op within ranges ]
+      ],
+    )
 
 records_over : (c : Configuration) (number : ℕ) (records : List (List (List ℕ))) (ops : List Op) → IsWithinLimits c → number ≤ 200001 → script_from (shape_of c) number records ≡ Ok ops
     → (length ops + number ≤ 200001) × AllByRecursion (IsOpOver (metric_space c)) ops
@@ -174,7 +174,7 @@ insert_served c fields op h = elim (chosen (length fields == c.dims + 2) _ (Err 
       let (v, second, e) = bind_ok (vector_in (shape_of c) (drop 2 fields)) (λ v. Ok (Insert id v)) op more in
       rw (← ok_same (Insert id v) op e) tt
   | inr other ↦ cc other.1
-  ]
+]
 
 delete_served : (fields : List (List ℕ)) (op : Op) → delete_in fields ≡ Ok op → IsServed op
 unfolding delete_in
@@ -183,7 +183,7 @@ delete_served fields op h = elim (chosen (length fields == 2) _ (Err Fields) (Ok
       let (id, first, e) = bind_ok (id_in (field_in 1 fields)) (λ id. Ok (Delete id)) op full.1 in
       rw (← ok_same (Delete id) op e) tt
   | inr other ↦ cc other.1
-  ]
+]
 
 range_served : (c : Configuration) (fields : List (List ℕ)) (op : Op) → range_in (shape_of c) fields ≡ Ok op → IsServed op
 unfolding range_in
@@ -193,7 +193,7 @@ range_served c fields op h = elim (chosen (length fields == c.dims + 2) _ (Err F
       let (v, second, e) = bind_ok (vector_in (shape_of c) (drop 2 fields)) (λ v. Ok (Range radius v)) op more in
       rw (← ok_same (Range radius v) op e) tt
   | inr other ↦ cc other.1
-  ]
+]
 
 op_served : (c : Configuration) (number : ℕ) (fields : List (List ℕ)) (op : Op) → op_in (shape_of c) number fields ≡ Ok op → IsServed op
 op_served c number fields op h =

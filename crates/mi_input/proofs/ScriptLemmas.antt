@@ -1,10 +1,9 @@
 -- A script read record by record.
-use Rattle.std.proofs.Common.{◌≡◌, ℕ, zero, suc, ◌+◌, ◌≤◌, ◌<◌, Bool, true, false, List, [], ◌∷◌, ◌++◌, length, drop, Result, Ok, Err, codes, ◌⊎◌, inl, inr, refl, sym, ap, ◌∙◌, arith}
+use Rattle.std.proofs.Common.{◌≡◌, ℕ, ◌+◌, ◌≤◌, List, [], ◌∷◌, ◌++◌, Ok, Err, codes, ◌⊎◌, inl, inr, refl}
 use Rattle.mi_base.specs.declared.records.Op.{Op}
 use Rattle.mi_input.specs.declared.faults.Reason.{Reason}
 use Rattle.mi_input.specs.declared.vectors.Shape.{Shape}
-use Rattle.mi_input.specs.Faults.{Fault, ◌>>=◌, at_record}
-use Rattle.mi_input.specs.Records.{begins_with, limited}
+use Rattle.mi_input.specs.Records.{begins_with}
 use Rattle.mi_input.specs.Scripts.{delete_in, insert_in, op_in, range_in, script_from}
 use Rattle.mi_input.proofs.CaseLemmas.{chosen, limited_ok}
 use Rattle.mi_input.proofs.EachLemmas.{front_done, front_more, with_front}

@@ -1,6 +1,5 @@
 -- The rows of a table read one after the other.
-use Rattle.std.proofs.Common.{◌≡◌, ℕ, zero, suc, ◌+◌, ◌-◌, ◌≤◌, ◌<◌, ◌&&◌, Bool, true, false, List, [], ◌∷◌, ◌++◌, length, drop, codes, Result, Ok, Err, nat_le, refl, sym, ap, ◌∙◌, append_assoc, arith, length-append, length-drop}
-use Rattle.std.proofs.lemmas.Bool.{le-leb}
+use Rattle.std.proofs.Common.{◌≡◌, ℕ, ◌+◌, ◌-◌, ◌≤◌, ◌<◌, ◌&&◌, true, false, List, [], ◌∷◌, ◌++◌, length, drop, codes, Result, Ok, Err, nat_le, refl, sym, ap, append_assoc, arith, length-append, length-drop}
 use Rattle.std.proofs.lemmas.Bool.Decides.{nat_tests}
 use Rattle.std.proofs.lemmas.List.{append-nil}
 use Rattle.std.specs.List.{AllByRecursion}
@@ -10,7 +9,7 @@ use Rattle.mi_input.specs.declared.faults.InputFault.{InputFault}
 use Rattle.mi_input.specs.declared.faults.InputFault.TheVariants.{Bad, Memory}
 use Rattle.mi_input.specs.Faults.{Fault, IsFaultOf, ◌>>=◌, at_record}
 use Rattle.mi_input.specs.Numbers.{count_in}
-use Rattle.mi_input.specs.Records.{Place, after, begins_with, each, next_begins, reading}
+use Rattle.mi_input.specs.Records.{Place, each, next_begins, reading}
 use Rattle.mi_input.proofs.CaseLemmas.{ok_same}
 use Rattle.mi_input.specs.Settings.{row_in, rows_from, table_in, values_in}
 

@@ -1,13 +1,13 @@
 -- The records of a file, and reading them one after the other.
-use Rattle.std.specs.Prelude.{◌≡◌, ℕ, ◌+◌, ◌==◌, List, [], ◌∷◌, length, drop, slice_index_or, bytes_eq, Bool, true, false, Option, Some, None, Result, Ok, Err, if◌then◌else◌, nat_le, IsSome}
+use Rattle.std.specs.Prelude.{◌≡◌, ℕ, ◌+◌, List, [], ◌∷◌, length, drop, slice_index_or, bytes_eq, Bool, true, false, Option, Some, None, Result, Ok, Err, if◌then◌else◌, nat_le, IsSome}
 use denote.Ref.{Bor}
 use Rattle.csv.specs.Machine.{ends_at_end}
-use Rattle.csv.specs.Reading.{default_config, records, records_from, strip_bom, reader_config, reader_state, reader_trim, source_of, took_first}
+use Rattle.csv.specs.Reading.{default_config, records, records_from, strip_bom, is_flexible, reader_config, reader_state, reader_trim, source_of}
 use Rattle.csv.specs.declared.parser.State.{State}
 use Rattle.csv.specs.declared.reader.Reader.{Reader}
 use Rattle.csv.specs.declared.reader.Trim.TheVariants as trim
 use Rattle.mi_input.specs.declared.faults.Reason.{Reason}
-use Rattle.mi_input.specs.declared.faults.Reason.TheVariants.{Word, Limit, End, Extra}
+use Rattle.mi_input.specs.declared.faults.Reason.TheVariants.{Limit, End, Extra}
 use Rattle.mi_input.specs.Faults.{Fault, ◌>>=◌, at_record}
 
 -- the records of a file as csv has them, each a list of fields, each a list of bytes: no header row, any number
@@ -87,9 +87,10 @@ abbrev pub records_at : Bool → List (List ℕ) → Reader (Bor (List ℕ)) →
 records_at false fields reader = []
 records_at true fields reader = fields ∷ records_of reader
 
--- csv's reader stands between two records of bytes that it knows
+-- csv's reader takes records of any length, and stands between two records of bytes that it knows
 pub record IsBetweenRecords (reader : Reader (Bor (List ℕ))) : Type 0 where
   pub trim : reader_trim reader ≡ trim.None
+  pub flexible : is_flexible reader ≡ true
   pub config : reader_config reader ≡ default_config
   pub state : ends_at_end (reader_state reader) ≡ false
   pub known : IsSome (source_of (λ bytes. Some bytes.now) reader)

@@ -1,5 +1,5 @@
 -- The settings in a file.
-use Rattle.std.specs.Prelude.{◌≡◌, ℕ, ◌+◌, ◌==◌, ◌&&◌, ◌≤◌, if◌then◌else◌, List, [], ◌∷◌, length, drop, bytes_eq, codes, Bool, false, Result, Ok, Err, nat_le}
+use Rattle.std.specs.Prelude.{◌≡◌, ℕ, ◌+◌, ◌==◌, ◌&&◌, ◌≤◌, if◌then◌else◌, List, [], ◌∷◌, length, drop, bytes_eq, codes, Result, Ok, Err, nat_le}
 use Rattle.mi_base.specs.declared.settings.MetricKind.{MetricKind}
 use Rattle.mi_base.specs.declared.settings.MetricKind.TheVariants.{L1, Max, Hamming, Table}
 use Rattle.mi_base.specs.Configuration.{Configuration, HasItsRows, IsTable}
@@ -24,10 +24,10 @@ kind_in name =
 unfoldable pub metric_in : List (List ℕ) → Result MetricKind Reason
 metric_in fields =
     if begins_with (codes "metric") fields then
-      (if length fields == 1 then Err Fields
-      else (do
-        kind ← kind_in (field_in 1 fields)
-        if length fields == 2 then Ok kind else Err Fields))
+    (if length fields == 1 then Err Fields
+    else (do
+      kind ← kind_in (field_in 1 fields)
+      if length fields == 2 then Ok kind else Err Fields))
     else Err Word
 
 -- WORD,N

@@ -15,3 +15,6 @@ pub use faults::{InputFault, Reason};
 pub use schedules::read_schedule;
 pub use scripts::read_script;
 pub use settings::read_settings;
+
+#[cfg(test)]
+mod tests;

@@ -1,6 +1,6 @@
 //! Fields as numbers.
 ghost use Rattle.std.specs.Prelude.{◌≡◌, ◌<◌, ◌≤◌, ◌^◌, ◌≤ℤ◌, pos, IfSome, IfOk};
-ghost use Rattle.mi_input.specs.Numbers.{count_in, natural_in, number_in, whole_in};
+ghost use Rattle.mi_input.specs.Numbers.{bounded, count_in, natural_in, number_in, whole_in};
 
 use crate::faults::Reason;
 
@@ -39,17 +39,26 @@ fn number(field: &[u8]) -> Option<i128>
     }
 }
 
+// The number, if it lies within these bounds.
+fn within(number: Option<i128>, least: i128, most: i128) -> Result<i128, Reason>
+    ensures value { result ≡ bounded least most number }
+    ensures bounds { IfOk result (λ number. (least ≤ℤ number) × (number ≤ℤ most)) }
+{
+    match number {
+        None => Err(Reason::Number),
+        Some(number) if number < least || number > most => Err(Reason::Range),
+        Some(number) => Ok(number),
+    }
+}
+
 /// The number in a field, within these bounds.
 #[tactic(auto, unfolding(crate::specs::Numbers::whole_in))]
 pub(crate) fn whole(field: &[u8], least: i64, most: i64) -> Result<i64, Reason>
     ensures value { result ≡ whole_in least most field.now }
     ensures bounds { IfOk result (λ number. (least ≤ℤ number) × (number ≤ℤ most)) }
 {
-    match number(field) {
-        None => Err(Reason::Number),
-        Some(number) if number < i128::from(least) || number > i128::from(most) => Err(Reason::Range),
-        Some(number) => Ok(number as i64),
-    }
+    let number = within(number(field), i128::from(least), i128::from(most))?;
+    Ok(number as i64)
 }
 
 /// The same where the bounds have no sign.
@@ -58,9 +67,6 @@ pub(crate) fn count(field: &[u8], least: u64, most: u64) -> Result<u64, Reason>
     ensures value { result ≡ count_in least most field.now }
     ensures bounds { IfOk result (λ number. (least ≤ number) × (number ≤ most)) }
 {
-    match number(field) {
-        None => Err(Reason::Number),
-        Some(number) if number < i128::from(least) || number > i128::from(most) => Err(Reason::Range),
-        Some(number) => Ok(number as u64),
-    }
+    let number = within(number(field), i128::from(least), i128::from(most))?;
+    Ok(number as u64)
 }

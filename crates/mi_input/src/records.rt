@@ -8,7 +8,7 @@ ghost use Rattle.mi_input.specs.declared.faults.InputFault.TheVariants.{Bad, Mem
 
 use crate::faults::{InputFault, Reason};
 use crate::fields::begins;
-use csv::{ByteRecord, Reader, ReaderBuilder};
+use csv::{ByteRecord, ErrorKind, Reader, ReaderBuilder};
 use std::alloc::Global;
 use std::marker::Model;
 
@@ -21,11 +21,15 @@ fn read_next(reader: &mut Reader<&[u8]>, row: &mut ByteRecord) -> Result<bool, I
     ensures goes_on { IfOk result (λ found. found ≡ true → IsBetweenRecords reader.new) }
     ensures err { IfErr result (λ e. e ≡ Memory) }
 {
-    // A slice has no faults of its own.
-    let Ok(found) = reader.read_byte_record(row) else {
-        return Err(InputFault::Memory);
-    };
-    Ok(found)
+    match reader.read_byte_record(row) {
+        Ok(found) => Ok(found),
+        Err(e) => match e.kind() {
+            // Records may have any number of fields.
+            ErrorKind::UnequalLengths { .. } => unreachable!(),
+            // A slice has no faults of its own.
+            _ => Err(InputFault::Memory),
+        },
+    }
 }
 
 /// A place in a file. One record is kept at a time.
@@ -74,7 +78,11 @@ impl<'a> Records<'a> {
         ensures some { IfSome result (λ fields. self.now.records ≡ fields_of fields.now ∷ drop 1 self.now.records) }
         ensures none { IfNone result (self.now.records ≡ []) }
     {
-        if self.found { Some(&self.current) } else { None }
+        if self.found {
+            Some(&self.current)
+        } else {
+            None
+        }
     }
 
     /// The record at this place, where one must follow.

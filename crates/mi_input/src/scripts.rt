@@ -80,7 +80,11 @@ fn op_of(shape: &Shape, number: u32, fields: &ByteRecord) -> Result<Op, Reason>
     let ranges = begins(fields, b"range");
     if !inserts && !deletes && !ranges {
         let nearest = begins(fields, b"nearest");
-        return Err(if nearest { Reason::Unbuilt } else { Reason::Word });
+        return Err(if nearest {
+            Reason::Unbuilt
+        } else {
+            Reason::Word
+        });
     }
     if number > MAX_RECORDS {
         return Err(Reason::Limit);

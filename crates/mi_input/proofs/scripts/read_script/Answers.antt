@@ -11,11 +11,11 @@ returns-clause-script c =
     let settings = c.args.settings.now in
     let gives = rw c.of.ensures.shape at c.script_of.ensures in
     gives_law (IsScriptOver (metric_space settings)) c.script_of.result (script_in settings c.args.bytes.now) gives
-      (λ script read. script_over settings (records_in c.args.bytes.now) script c.of.ensures.within read)
+    (λ script read. script_over settings (records_in c.args.bytes.now) script c.of.ensures.within read)
 
 pub returns-clause-served : goal.returns-clause-served
 returns-clause-served c =
     let settings = c.args.settings.now in
     let gives = rw c.of.ensures.shape at c.script_of.ensures in
     gives_law AreServed c.script_of.result (script_in settings c.args.bytes.now) gives
-      (λ script read. script_served settings 1 (records_in c.args.bytes.now) script read)
+    (λ script read. script_served settings 1 (records_in c.args.bytes.now) script read)

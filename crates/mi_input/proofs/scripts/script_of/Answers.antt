@@ -1,4 +1,4 @@
-use Rattle.std.proofs.Common.{◌≡◌, ◌+◌, ◌≤◌, drop, ◌∙◌, sym, ap, arith}
+use Rattle.std.proofs.Common.{drop, ◌∙◌, sym, arith}
 use Rattle.csv.specs.Records.{fields_of}
 use Rattle.mi_input.proofs.ScriptLemmas.{op_few, script_done, script_more, script_stops}
 use Rattle.mi_input.proofs.scripts.script_of.Goals as goal

@@ -1,4 +1,4 @@
-use Rattle.std.proofs.Common.{◌≡◌, ◌+◌, ◌≤◌, ◌<◌, ◌++◌, ◌∷◌, [], length, true, false, ◌∙◌, sym, refl, arith, length-append}
+use Rattle.std.proofs.Common.{◌<◌, ◌∷◌, [], length, ◌∙◌, sym, arith, length-append}
 use Rattle.std.proofs.lemmas.Result.{err_from_is_err_and}
 use Rattle.mi_base.specs.Configuration.{IsTableRow}
 use Rattle.mi_input.proofs.TableLemmas.{each_push, first_more, first_stops, table_done, table_more, table_stops}

@@ -1,10 +1,9 @@
-use Rattle.std.proofs.Common.{◌≡◌, ◌+◌, ◌≤◌, ◌<◌, length, true, ◌∙◌, sym, ap, arith, rules, length-append, ◌++◌, ◌∷◌, [], ℤ, FitsSigned, w64}
+use Rattle.std.proofs.Common.{◌≡◌, ◌+◌, length, ◌∙◌, sym, ap, arith, rules, length-append, ◌∷◌, [], FitsSigned, w64}
 use Rattle.std.proofs.lemmas.Int.{to_z-of_z}
 use Rattle.std.proofs.lemmas.Result.{err_from_is_err_and}
 use Rattle.csv.specs.Records.{fields_of}
-use Rattle.mi_base.specs.Vectors.{all_coordinates}
 use Rattle.mi_input.specs.Numbers.{whole_in}
-use Rattle.mi_input.proofs.EachLemmas.{each_done, each_more, each_stops}
+use Rattle.mi_input.proofs.EachLemmas.{each_more, each_stops}
 use Rattle.mi_input.proofs.VectorLemmas.{coordinates_more, in_shape, not_refused}
 use Rattle.mi_input.proofs.vectors.Shape.vector.Goals as goal
 

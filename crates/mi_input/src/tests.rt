@@ -1,0 +1,318 @@
+use super::*;
+use mi_base::{MetricKind, Op, Script, Settings};
+use std::alloc::Global;
+use std::test::*;
+
+/// The first record under L1.
+const L1: &[u8] = b"metric,l1\n";
+/// Two coordinates under L1.
+const PLAIN: &[u8] = b"metric,l1\ndims,2\n";
+/// The same with the levels.
+const SIZED: &[u8] = b"metric,l1\ndims,2\nlevels,0\n";
+/// A table, before its rows.
+const TABLE: &[u8] = b"metric,table\ndims,1\n";
+/// Settings for two coordinates.
+const GOOD: &[u8] = b"metric,l1\ndims,2\nlevels,0\ncell,4\nupdates,8\npages,4\n";
+
+/// Settings with a table of three rows.
+const ROWS: &[u8] =
+    b"metric,table\ndims,1\nrow,0,1,3\nrow,1,0,1\nrow,3,1,0\nlevels,-0\ncell,10000\nupdates,200000\npages,200000";
+/// A script of three operations, spelled in several ways.
+const SPELLED: &[u8] = b"\xef\xbb\xbf\"insert\",7,+0,-00\r\n\r\nrange,21,\"1\",1\ndelete,7\n";
+
+/// The text with so many lines more, and an end.
+fn repeated(
+    alloc: Global,
+    head: &[u8],
+    count: usize,
+    line: &[u8],
+    end: &[u8],
+) -> Result<Vec<u8>, Fail> {
+    let mut bytes = Vec::from_slice(alloc, head)?;
+    for _ in 0..count {
+        bytes.extend_from_slice(line)?;
+    }
+    bytes.extend_from_slice(end)?;
+    Ok(bytes)
+}
+
+fn script(alloc: Global, settings: &[u8], text: &[u8]) -> Result<Script, InputFault> {
+    let settings = read_settings(alloc, settings)?;
+    read_script(alloc, text, &settings)
+}
+
+fn is_at<T: Drop>(read: Result<T, InputFault>, number: u32, why: Reason) -> bool {
+    match read {
+        Ok(_) => false,
+        Err(fault) => fault == InputFault::Bad { number, why },
+    }
+}
+
+static BAD_SETTINGS: [(&[u8], &[u8], u32, Reason); 59] = [
+    (b"", b"", 1, Reason::End),
+    (b"\n\r\n\n", b"", 1, Reason::End),
+    (b"\"\"\n", b"", 1, Reason::Word),
+    (b"dims,2\n", b"", 1, Reason::Word),
+    (b"Metric,l1\n", b"", 1, Reason::Word),
+    (b" metric,l1\n", b"", 1, Reason::Word),
+    (b"metric\n", b"", 1, Reason::Fields),
+    (b"metric,\n", b"", 1, Reason::Word),
+    (b"metric,foo\n", b"", 1, Reason::Word),
+    (b"metric,L1\n", b"", 1, Reason::Word),
+    (b"metric,foo,1\n", b"", 1, Reason::Word),
+    (b"metric,l1,1\n", b"", 1, Reason::Fields),
+    (b"metric,max,1\n", b"", 1, Reason::Fields),
+    (L1, b"", 2, Reason::End),
+    (L1, b"levels,0\n", 2, Reason::Word),
+    (L1, b"dims\n", 2, Reason::Fields),
+    (L1, b"dims,2,3\n", 2, Reason::Fields),
+    (L1, b"dims,\n", 2, Reason::Number),
+    (L1, b"dims,x\n", 2, Reason::Number),
+    (L1, b"dims,+\n", 2, Reason::Number),
+    (L1, b"dims,-\n", 2, Reason::Number),
+    (L1, b"dims,++2\n", 2, Reason::Number),
+    (L1, b"dims, 2\n", 2, Reason::Number),
+    (L1, b"dims,2 \n", 2, Reason::Number),
+    (L1, b"dims,2.0\n", 2, Reason::Number),
+    (L1, b"dims,000000000000000000002\n", 2, Reason::Number),
+    (L1, b"dims,99999999999999999999\n", 2, Reason::Range),
+    (L1, b"dims,0\n", 2, Reason::Range),
+    (L1, b"dims,65\n", 2, Reason::Range),
+    (L1, b"dims,-1\n", 2, Reason::Range),
+    (b"metric,table\n", b"dims,2\n", 2, Reason::Range),
+    (PLAIN, b"", 3, Reason::End),
+    (PLAIN, b"row,1\n", 3, Reason::Word),
+    (PLAIN, b"pivot\n", 3, Reason::Unbuilt),
+    (PLAIN, b"levels,1\n", 3, Reason::Range),
+    (PLAIN, b"levels\n", 3, Reason::Fields),
+    (TABLE, b"", 3, Reason::End),
+    (TABLE, b"levels,0\n", 3, Reason::Word),
+    (TABLE, b"pivot,0\n", 3, Reason::Word),
+    (TABLE, b"row\n", 3, Reason::Fields),
+    (TABLE, b"row,\n", 3, Reason::Number),
+    (TABLE, b"row,0,x,128000001\n", 3, Reason::Number),
+    (TABLE, b"row,128000001,x\n", 3, Reason::Range),
+    (TABLE, b"row,-1\n", 3, Reason::Range),
+    (TABLE, b"row,0\nmetric\n", 4, Reason::Word),
+    (TABLE, b"row,0\npivot,1,2\n", 4, Reason::Unbuilt),
+    (TABLE, b"row,0\nrow,0\n", 5, Reason::End),
+    (SIZED, b"levels,0\n", 4, Reason::Word),
+    (SIZED, b"pivot,0,0\n", 4, Reason::Word),
+    (SIZED, b"cell,0\n", 4, Reason::Range),
+    (SIZED, b"cell,10001\n", 4, Reason::Range),
+    (SIZED, b"cell,4\nupdates,0\n", 5, Reason::Range),
+    (SIZED, b"cell,4\nupdates,200001\n", 5, Reason::Range),
+    (SIZED, b"cell,4\nupdates,8\n", 6, Reason::End),
+    (SIZED, b"cell,4\nupdates,8\npages,0\n", 6, Reason::Range),
+    (
+        SIZED,
+        b"cell,4\nupdates,8\npages,200001\n",
+        6,
+        Reason::Range,
+    ),
+    (GOOD, b"pages,4\n", 7, Reason::Extra),
+    (GOOD, b"pivot,0,0\n", 7, Reason::Extra),
+    (GOOD, b"x", 7, Reason::Extra),
+];
+
+#[test]
+fn bad_settings(rt: HostRuntime) -> Result<(), Fail> {
+    for (head, tail, number, why) in &BAD_SETTINGS {
+        let bytes = repeated(rt.alloc(), head, 1, tail, b"")?;
+        assert!(rt; is_at(read_settings(rt.alloc(), bytes.as_slice()), *number, *why));
+    }
+    Ok(())
+}
+
+static BAD_SCRIPTS: [(&[u8], u32, Reason); 26] = [
+    (b"x\n", 1, Reason::Word),
+    (b"\"\"\n", 1, Reason::Word),
+    (b"Insert,1,0,0\n", 1, Reason::Word),
+    (b"insert\n", 1, Reason::Fields),
+    (b"insert,1,0\n", 1, Reason::Fields),
+    (b"insert,1,0,0,0\n", 1, Reason::Fields),
+    (b"insert,,0,0\n", 1, Reason::Number),
+    (b"insert,-1,0,0\n", 1, Reason::Range),
+    (b"insert,1099511627776,x,0\n", 1, Reason::Range),
+    (b"insert,1,x,1000001\n", 1, Reason::Number),
+    (b"insert,1,1000001,x\n", 1, Reason::Range),
+    (b"insert,1,0,-1000001\n", 1, Reason::Range),
+    (b"insert,1,0,0\ninsert,2,x,0\n", 2, Reason::Number),
+    (b"insert,7,0,0\ninsert,9,3", 2, Reason::Fields),
+    (b"insert,7,0,0\n\n\n\nfoo\n", 2, Reason::Word),
+    (b"delete\n", 1, Reason::Fields),
+    (b"delete,1,2\n", 1, Reason::Fields),
+    (b"delete,x\n", 1, Reason::Number),
+    (b"delete,\"1\n", 1, Reason::Number),
+    (b"delete,1\"\n", 1, Reason::Number),
+    (b"range,2147483648,0,0\n", 1, Reason::Range),
+    (b"range,-1,0,0\n", 1, Reason::Range),
+    (b"range,1,0\n", 1, Reason::Fields),
+    (b"nearest\n", 1, Reason::Unbuilt),
+    (b"nearest,x,0,0\n", 1, Reason::Unbuilt),
+    (b"\xef\xbb\xbf\xef\xbb\xbfdelete,1\n", 1, Reason::Word),
+];
+
+#[test]
+fn bad_scripts(rt: HostRuntime) {
+    for (text, number, why) in &BAD_SCRIPTS {
+        assert!(rt; is_at(script(rt.alloc(), GOOD, text), *number, *why));
+    }
+}
+
+static BAD_ROWS: [(&[u8], Reason); 3] = [
+    (b"insert,1,3\n", Reason::Range),
+    (b"insert,1,-1\n", Reason::Range),
+    (b"insert,1,0,0\n", Reason::Fields),
+];
+
+#[test]
+fn bad_scripts_under_a_table(rt: HostRuntime) {
+    for (text, why) in &BAD_ROWS {
+        assert!(rt; is_at(script(rt.alloc(), ROWS, text), 1, *why));
+    }
+}
+
+static PAST_THE_LIMIT: [(&[u8], Reason); 3] = [
+    (b"delete,1\n", Reason::Limit),
+    (b"delete\n", Reason::Limit),
+    (b"x\n", Reason::Word),
+];
+
+#[test]
+fn long_scripts(rt: HostRuntime) -> Result<(), Fail> {
+    for (end, why) in &PAST_THE_LIMIT {
+        let bytes = repeated(rt.alloc(), b"", 200_000, b"delete,1\n", end)?;
+        assert!(rt; is_at(script(rt.alloc(), GOOD, bytes.as_slice()), 200_001, *why));
+    }
+    Ok(())
+}
+
+#[test]
+fn long_tables(rt: HostRuntime) -> Result<(), Fail> {
+    let rows = repeated(rt.alloc(), TABLE, 128, b"row,0\n", b"row\n")?;
+    assert!(rt;
+        is_at(
+            read_settings(rt.alloc(), rows.as_slice()),
+            131,
+            Reason::Limit
+        )
+    );
+    let values = repeated(rt.alloc(), b"metric,table\ndims,1\nrow", 129, b",0", b"\n")?;
+    assert!(rt;
+        is_at(
+            read_settings(rt.alloc(), values.as_slice()),
+            3,
+            Reason::Fields
+        )
+    );
+    Ok(())
+}
+
+/// How many operations there are, and the number and the first coordinate of the last one.
+fn summary(script: &Script) -> (usize, u64, i64) {
+    let mut last = (0, 0);
+    for op in script.as_slice() {
+        last = match op {
+            Op::Insert { id, vector } => (id.get(), i64::from(vector.as_slice()[0])),
+            Op::Delete { id } => (id.get(), 0),
+            Op::Range { radius, query } => (u64::from(*radius), i64::from(query.as_slice()[0])),
+            Op::Nearest { count, query } => (u64::from(*count), i64::from(query.as_slice()[0])),
+        };
+    }
+    (script.len(), last.0, last.1)
+}
+
+fn reads_as(read: Result<Script, InputFault>, want: (usize, u64, i64)) -> bool {
+    match read {
+        Ok(script) => summary(&script) == want,
+        Err(_) => false,
+    }
+}
+
+static GOOD_SCRIPTS: [(&[u8], (usize, u64, i64)); 6] = [
+    (b"", (0, 0, 0)),
+    (b"\"insert\",7,+0,-00\r\n", (1, 7, 0)),
+    (
+        b"\"insert\",7,+0,-00\r\n\r\nrange,2147483647,1,1",
+        (2, 2_147_483_647, 1),
+    ),
+    (
+        b"\xef\xbb\xbfinsert,1099511627775,-1000000,1000000\n",
+        (1, 1_099_511_627_775, -1_000_000),
+    ),
+    (b"delete,00000000000000000012\n", (1, 12, 0)),
+    (b"delete,\"1\"2\n", (1, 12, 0)),
+];
+
+#[test]
+fn good_scripts(rt: HostRuntime) {
+    for (text, want) in &GOOD_SCRIPTS {
+        assert!(rt; reads_as(script(rt.alloc(), GOOD, text), *want));
+    }
+    assert!(rt; reads_as(script(rt.alloc(), ROWS, b"insert,1,2\n"), (1, 1, 2)));
+}
+
+fn are_good(settings: &Settings) -> bool {
+    settings.metric == MetricKind::L1
+        && settings.dims == 2
+        && settings.rows.is_empty()
+        && settings.pivots.is_empty()
+        && settings.levels == 0
+        && settings.cell == 4
+        && settings.updates == 8
+        && settings.pages == 4
+}
+
+#[test]
+fn good_settings(rt: HostRuntime) -> Result<(), Fail> {
+    let settings = read_settings(rt.alloc(), GOOD)
+        .ok()
+        .ok_or("the settings are good")?;
+    assert!(rt; are_good(&settings));
+    Ok(())
+}
+
+#[test]
+fn schedules(rt: HostRuntime) -> Result<(), Fail> {
+    let schedule = read_schedule(rt.alloc(), b"\n\n", 1)
+        .ok()
+        .ok_or("the schedule is good")?;
+    assert!(rt; schedule.is_empty());
+    assert!(rt;
+        is_at(
+            read_schedule(rt.alloc(), b"\n0,op\n", 1),
+            1,
+            Reason::Unbuilt
+        )
+    );
+    Ok(())
+}
+
+fn good_cuts_of_settings(alloc: Global) -> usize {
+    let mut good: usize = 0;
+    for end in 0..GOOD.len() + 1 {
+        if read_settings(alloc, &GOOD[..end]).is_ok() {
+            good = good.saturating_add(1);
+        }
+    }
+    good
+}
+
+fn good_cuts_of_script(alloc: Global) -> usize {
+    let mut good: usize = 0;
+    for end in 0..SPELLED.len() + 1 {
+        if script(alloc, GOOD, &SPELLED[..end]).is_ok() {
+            good = good.saturating_add(1);
+        }
+    }
+    good
+}
+
+#[test]
+fn files_cut_after_each_byte(rt: HostRuntime) {
+    // The last record may lack its line feed.
+    assert!(rt; good_cuts_of_settings(rt.alloc()) == 2);
+    // No record; the mark; the first record from its last -0 on, and the empty line; the second; the third.
+    assert!(rt; good_cuts_of_script(rt.alloc()) == 2 + 6 + 2 + 2);
+}
