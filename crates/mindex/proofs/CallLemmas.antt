@@ -9,7 +9,7 @@ use Rattle.mi_input.specs.Settings.{settings_in}
 use Rattle.mi_input.specs.Schedules.{schedule_in}
 use Rattle.mi_input.specs.Scripts.{script_in}
 use Rattle.mi_outside.specs.declared.writing.SinkFailed.{SinkFailed}
-use Rattle.mi_outside.specs.Outside.{Sends}
+use Rattle.mi_outside.specs.Outside.{Rose, Sends}
 use Rattle.mi_outside.proofs.SendingLemmas.{Rose-later}
 use Rattle.mi_tree.specs.declared.outcomes.Outcome.{Outcome}
 use Rattle.mi_tree.specs.Catalog.{catalog}
@@ -21,8 +21,8 @@ use Rattle.mindex.specs.declared.refusals.Refusal.TheVariants.{Record, Table}
 use Rattle.mindex.specs.declared.refusals.Stop.{Stop}
 use Rattle.mindex.specs.declared.refusals.Stop.TheVariants.{Refused, Unread, Memory}
 use Rattle.mindex.specs.declared.loading.Loaded.{Loaded}
-use Rattle.mindex.specs.Calls.{Answered, Ends, IsWant, Replayed, RunsTo, Serves, usage_line}
-use Rattle.mindex.specs.Inputs.{AreTextsOf, GoodBefore, Inputs, Names, Texts, checked, in_file, inputs_of, names_in, schedule_of, script_of, settings_of}
+use Rattle.mindex.specs.Calls.{Answered, Completes, Ends, IsRefusal, IsRun, IsUnread, IsWant, Replayed, RunsTo, Serves, Tells, usage_line}
+use Rattle.mindex.specs.Inputs.{AreTextsOf, IsTextOf, GoodBefore, Inputs, Names, Texts, checked, in_file, inputs_of, names_in, schedule_of, script_of, settings_of}
 use Rattle.mindex.specs.Loading.{Finds, FindsAll, HasMetric, Loads, LoadsAll, MayRun, inputs_in, stop_line, stop_status}
 use Rattle.mindex.specs.Outcomes.{IsOutcomeOf}
 use Rattle.mindex.proofs.LoadingLemmas.{some_text, some_text_is}
@@ -229,3 +229,32 @@ named_words f words a b d names served four first second third settings schedule
     ∙ ap (λ w. Some (record { settings = w; schedule = get_or (map f words) 2 []; script = get_or (map f words) 3 [] })) (word_at f words 1 a (omega arith) first ∙ sym settings)
     ∙ ap (λ w. Some (record { settings = names.settings; schedule = w; script = get_or (map f words) 3 [] })) (word_at f words 2 b (omega arith) second ∙ sym schedule)
     ∙ ap (λ w. Some (record { settings = names.settings; schedule = names.schedule; script = w })) (word_at f words 3 d (omega arith) third ∙ sym script)
+
+told_text : (told : Option (List ℕ)) (text other : List ℕ) → told ≡ Some text → IsTextOf told other → other ≡ text
+told_text told text other is h = subst (λ o. IsTextOf o other) is h
+
+told_inputs : (content : List ℕ → Option (List ℕ)) (names : Names) (texts others : Texts) → Tells content names texts → AreTextsOf content names others → inputs_of others ≡ inputs_of texts
+told_inputs content names texts others t h =
+    ap (λ w. inputs_of (record { settings = w; schedule = others.schedule; script = others.script })) (told_text (content names.settings) texts.settings others.settings t.settings h.settings)
+    ∙ ap (λ w. inputs_of (record { settings = texts.settings; schedule = w; script = others.script })) (told_text (content names.schedule) texts.schedule others.schedule t.schedule h.schedule)
+    ∙ ap (λ w. inputs_of (record { settings = texts.settings; schedule = texts.schedule; script = w })) (told_text (content names.script) texts.script others.script t.script h.script)
+
+said_when_good : (texts : Texts) (inputs : Inputs) (reads reads' said : ℕ) (text : List ℕ) → inputs_of texts ≡ Ok inputs → ¬ Rose reads reads'
+    → IsRefusal texts said text ⊎ (IsUnread texts reads reads' said text ⊎ (IsRun texts said text ⊎ IsWant said text)) → (said ≡ 0) ⊎ ((said ≡ 6) ⊎ (said ≡ 7))
+said_when_good texts inputs reads reads' said text good still (inl refused) = let both : Ok inputs ≡ Err refused.refusal = sym good ∙ refused.first in cc
+said_when_good texts inputs reads reads' said text good still (inr (inl unread)) = absurd (still unread.counted)
+said_when_good texts inputs reads reads' said text good still (inr (inr (inl run))) =
+    let P : Bool → Type 0 = λ b. said ≡ cond b 6 0 → (said ≡ 0) ⊎ ((said ≡ 6) ⊎ (said ≡ 7)) in
+    (elim run.runs.short as P [ true ↦ λ e. inr (inl e) | false ↦ λ e. inl e ]) run.runs.status_is
+said_when_good texts inputs reads reads' said text good still (inr (inr (inr want))) = inr (inr want.status_is)
+
+-- good inputs are run, unless memory is wanted or a fault is counted
+pub completes : (words : Option Names) (content : List ℕ → Option (List ℕ)) (reads reads' writes writes' : ℕ) (before after : Option (List ℕ)) (status : ℕ)
+    → Answered words content reads reads' writes writes' before after status → Completes words content reads reads' writes writes' status
+completes None content reads reads' writes writes' before after status a = tt
+completes (Some names) content reads reads' writes writes' before after status a = λ texts inputs tells good still unfailed.
+    let said = said_when_good a.says.texts inputs reads reads' a.said a.text (told_inputs content names texts a.says.texts tells a.says.told ∙ good) still a.says.says in
+    elim a.ends.sent [
+      | inl sent ↦ subst (λ n. (n ≡ 0) ⊎ ((n ≡ 6) ⊎ (n ≡ 7))) (sym sent.0) said
+      | inr failed ↦ absurd (unfailed failed.1.1)
+    ]

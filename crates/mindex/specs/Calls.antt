@@ -133,3 +133,16 @@ pub record Replayed (inputs : Inputs) (writes writes' : ℕ) (before after : Opt
   pub text : List ℕ
   pub says : RunsTo inputs said text ⊎ IsWant said text
   pub ends : Ends said text writes writes' before after status
+
+-- the files tell these texts
+pub record Tells (content : List ℕ → Option (List ℕ)) (names : Names) (texts : Texts) : Type 0 where
+  pub settings : content names.settings ≡ Some texts.settings
+  pub schedule : content names.schedule ≡ Some texts.schedule
+  pub script : content names.script ≡ Some texts.script
+
+-- Where the words are served, the files tell inputs that are good, and no fault was counted, the script was run, unless memory was wanted.
+abbrev pub Completes : Option Names → (List ℕ → Option (List ℕ)) → ℕ → ℕ → ℕ → ℕ → ℕ → Type 0
+Completes None content reads reads' writes writes' status = Unit {0}
+Completes (Some names) content reads reads' writes writes' status =
+    (texts : Texts) (inputs : Inputs) → Tells content names texts → inputs_of texts ≡ Ok inputs → ¬ Rose reads reads' → ¬ Rose writes writes'
+    → (status ≡ 0) ⊎ ((status ≡ 6) ⊎ (status ≡ 7))

@@ -3,7 +3,7 @@
 
 ghost use Rattle.std.specs.Prelude.{◌≡◌, ℕ, List, map};
 ghost use Rattle.std.specs.String.{string_bytes};
-ghost use Rattle.mindex.specs.Calls.{Answered};
+ghost use Rattle.mindex.specs.Calls.{Answered, Completes};
 ghost use Rattle.mindex.specs.Inputs.{names_in};
 
 mod adapters;
@@ -35,6 +35,7 @@ pub fn mindex<R: Threads + Wait + Sync, F: Files, S: Sink, G: Gate>(
     _gate: &G,
 ) -> u8
     ensures answered { Answered (names_in (map string_bytes words.now)) (F.content files.old) (F.faults files.old) (F.faults files.new) (S.faults out.old) (S.faults out.new) (S.written out.old) (S.written out.new) result }
+    ensures complete { Completes (names_in (map string_bytes words.now)) (F.content files.old) (F.faults files.old) (F.faults files.new) (S.faults out.old) (S.faults out.new) result }
     ensures contents { (n : List ℕ) → F.content files.new n ≡ F.content files.old n }
 {
     replay_call(alloc, words, files, out)

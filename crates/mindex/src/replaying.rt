@@ -1,7 +1,7 @@
 //! The command that replays scripts.
 ghost use Rattle.std.specs.Prelude.{◌≡◌, ◌≤◌, ℕ, List, OnErr, OnOk, IsTrue, is_some, length, map};
 ghost use Rattle.std.specs.String.{string_bytes};
-ghost use Rattle.mindex.specs.Calls.{Answered, Ends, Replayed};
+ghost use Rattle.mindex.specs.Calls.{Answered, Completes, Ends, Replayed};
 ghost use Rattle.mindex.specs.Inputs.{names_in};
 ghost use Rattle.mindex.specs.Loading.{MayRun, inputs_in, stop_line, stop_status};
 
@@ -65,13 +65,7 @@ fn are_served(words: &[String]) -> bool
     words.len() == 4 && words[0].as_str() == "replay"
 }
 
-/// Replays one script by an empty schedule. The words are those behind the program's name.
-pub fn replay_call<F: Files, S: Sink>(
-    alloc: Global,
-    words: &[String],
-    files: &mut F,
-    out: &mut S,
-) -> u8
+fn answer_call<F: Files, S: Sink>(alloc: Global, words: &[String], files: &mut F, out: &mut S) -> u8
     ensures answered { Answered (names_in (map string_bytes words.now)) (F.content files.old) (F.faults files.old) (F.faults files.new) (S.faults out.old) (S.faults out.new) (S.written out.old) (S.written out.new) result }
     ensures contents { (n : List ℕ) → F.content files.new n ≡ F.content files.old n }
 {
@@ -85,4 +79,20 @@ pub fn replay_call<F: Files, S: Sink>(
         Ok(inputs) => replay_inputs(alloc, &inputs, out),
         Err(stop) => stopped(stop, out),
     }
+}
+
+/// Replays one script by an empty schedule. The words are those behind the program's name.
+pub fn replay_call<F: Files, S: Sink>(
+    alloc: Global,
+    words: &[String],
+    files: &mut F,
+    out: &mut S,
+) -> u8
+    // What is said, and which status and which bytes come of it.
+    ensures answered { Answered (names_in (map string_bytes words.now)) (F.content files.old) (F.faults files.old) (F.faults files.new) (S.faults out.old) (S.faults out.new) (S.written out.old) (S.written out.new) result }
+    // Good inputs are run.
+    ensures complete { Completes (names_in (map string_bytes words.now)) (F.content files.old) (F.faults files.old) (F.faults files.new) (S.faults out.old) (S.faults out.new) result }
+    ensures contents { (n : List ℕ) → F.content files.new n ≡ F.content files.old n }
+{
+    answer_call(alloc, words, files, out)
 }

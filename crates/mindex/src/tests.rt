@@ -181,6 +181,23 @@ fn each_fault_has_its_line(rt: HostRuntime) -> Result<(), Fail> {
 }
 
 #[test]
+fn a_file_above_the_bound_is_too_large(rt: HostRuntime) -> Result<(), Fail> {
+    let alloc = rt.alloc();
+    let words = replay_words(alloc)?;
+    let most = 67_108_864usize;
+    for (bytes, text) in [(most, "fault,2,1,word\n"), (most + 1, "fault,2,0,large\n")] {
+        let script = vec![in alloc; b'x'; bytes]?;
+        let mut files = files_of(alloc, PLANE, "", "", &[])?;
+        files.add(alloc, "script", script.as_slice())?;
+        let mut out = MemorySink::new(alloc, 100, &[], 100)?;
+        let status = replay_call(alloc, words.as_slice(), &mut files, &mut out);
+        assert_eq!(rt; status, 3);
+        assert_eq!(rt; out.bytes(), text.as_bytes());
+    }
+    Ok(())
+}
+
+#[test]
 fn other_words_have_the_usage_line(rt: HostRuntime) -> Result<(), Fail> {
     let alloc = rt.alloc();
     let usage =
