@@ -1,0 +1,2 @@
+pub mod MeasuringLemmas
+pub mod OrderingLemmas
