@@ -1,0 +1,10 @@
+pub mod CatLemmas
+pub mod CatalogLemmas
+pub mod CountLemmas
+pub mod CoverLemmas
+pub mod GridLemmas
+pub mod HullLemmas
+pub mod LeafLemmas
+pub mod ListLemmas
+pub mod OrderLemmas
+pub mod SearchLemmas

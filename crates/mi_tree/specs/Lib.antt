@@ -1,4 +1,8 @@
 pub mod Catalog
+pub mod Catalogs
+pub mod Cells
+pub mod Counting
 pub mod InTurn
 pub mod Legal
+pub mod Order
 pub mod Right

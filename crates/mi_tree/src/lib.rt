@@ -1,6 +1,22 @@
 //! The cells, what a log and replies may be, and what a run of scripts leaves.
 #![tactic(auto)]
 
+mod catalogs;
+mod cells;
+mod counts;
+mod laws;
 mod outcomes;
+mod refusals;
 
+pub use catalogs::Catalog;
+pub use counts::Placed;
+pub use laws::{
+    cat_begins, cat_counts, cat_deletes, cat_has_leaves, cat_inserts, cat_splits,
+    cat_without_pivots, hulls_cover, leaves_are_in_order, leaves_part_permutations,
+    spaces_are_grids,
+};
 pub use outcomes::{Leaf, Leaves, Outcome};
+pub use refusals::SplitRefusal;
+
+#[cfg(test)]
+mod tests;

@@ -1,0 +1,77 @@
+//! What is true of cells, counts and hulls at every log. The functions do nothing.
+ghost use Rattle.std.specs.Prelude.{◌≡◌, ◌==◌, ◌≤◌, ◌<◌, All, ◌++◌, [], ◌∷◌, ℕ, ℤ, List, length, map, flat_map, not, IsTrue, true};
+ghost use Rattle.std.specs.List.{filter, list_all};
+ghost use Rattle.mi_base.specs.declared.records.LogEvent.{LogEvent};
+ghost use Rattle.mi_base.specs.declared.records.LogEvent.TheVariants.{Update as Made, Split};
+ghost use Rattle.mi_base.specs.declared.records.Update.TheVariants.{Insert, Delete};
+ghost use Rattle.mi_base.specs.Configuration.{IsDepth};
+ghost use Rattle.mi_base.specs.History.{Object, live, updates_of};
+ghost use Rattle.mi_base.specs.Permutations.{is_permutation, begins};
+ghost use Rattle.mi_base.specs.Sorting.{SameElements};
+ghost use Rattle.mi_base.specs.Space.{MetricSpace, Space};
+ghost use Rattle.mi_tree.specs.declared.counts.Placed.{Placed};
+ghost use Rattle.mi_tree.specs.Catalog.{catalog};
+ghost use Rattle.mi_tree.specs.Order.{in_order};
+ghost use Rattle.mi_tree.specs.Cells.{Grid, IsGrid, grid_of, first_leaves, leaves, is_leaf, leaf_of, AllMaySplit};
+ghost use Rattle.mi_tree.specs.Counting.{has_leaf, belongs, held, leaf_with, in_hull, cat, placed, added, removed, leaf_among, parted};
+
+/// A space within the limits places its vectors as a grid does.
+pub fn spaces_are_grids()
+    ensures { (space : Space) (levels : ℕ) → length space.pivots ≤ 32 → IsDepth (length space.pivots) levels → IsGrid (grid_of space levels) }
+{}
+
+/// Each permutation of the pivots begins with exactly one leaf's prefix.
+pub fn leaves_part_permutations()
+    ensures { (g : Grid) (perm : List ℕ) → IsTrue (is_permutation perm) → length perm ≡ g.pivots → IsGrid g → (log : List LogEvent) → AllMaySplit g log
+        → filter (λ q. begins q perm) (leaves g log) ≡ leaf_of g log perm ∷ [] }
+{}
+
+/// The leaves stand in dictionary order of their prefixes.
+pub fn leaves_are_in_order()
+    ensures { (g : Grid) (log : List LogEvent) → in_order (leaves g log) ≡ true }
+{}
+
+/// The hull of a leaf has the key distance of each object that was put into it, so of each live one that belongs to it.
+pub fn hulls_cover()
+    ensures put { (g : Grid) (log : List LogEvent) (p : List ℕ) → list_all (λ o. in_hull (g.distance o.vector) (leaf_with g (held g log) p).hull) (filter (belongs g p) (held g log).put) ≡ true }
+    ensures live { (g : Grid) (log : List LogEvent) (p : List ℕ) → list_all (λ o. in_hull (g.distance o.vector) (leaf_with g (held g log) p).hull) (filter (belongs g p) (live (updates_of log))) ≡ true }
+{}
+
+/// The leaves before any event have no objects.
+pub fn cat_begins()
+    ensures { (g : Grid) → cat g [] ≡ map (leaf_among []) (first_leaves g.pivots) }
+{}
+
+/// An insert adds its object to its leaf.
+pub fn cat_inserts()
+    ensures { (g : Grid) (log : List LogEvent) (session op id : ℕ) (v : List ℤ) → cat g (log ++ Made session op (Insert id v) ∷ []) ≡ map (added (g.perm v) (g.distance v)) (cat g log) }
+{}
+
+/// A delete takes the one live object of its identifier out of its leaf.
+pub fn cat_deletes()
+    ensures { (g : Grid) (log : List LogEvent) (session op : ℕ) (o : Object) → SameElements (live (updates_of log)) (o ∷ filter (λ x. not (x.id == o.id)) (live (updates_of log)))
+        → cat g (log ++ Made session op (Delete o.id) ∷ []) ≡ map (removed (g.perm o.vector)) (cat g log) }
+{}
+
+/// A split puts the children in place of their leaf, with its live objects, told in any order.
+pub fn cat_splits()
+    ensures { (g : Grid) → IsGrid g → (log : List LogEvent) → AllMaySplit g log → (p : List ℕ) → is_leaf g log p ≡ true → (objects : List Placed)
+        → SameElements objects (map (placed g) (filter (belongs g p) (live (updates_of log)))) → cat g (log ++ Split p ∷ []) ≡ flat_map (parted g.pivots p objects) (cat g log) }
+{}
+
+/// The leaves with counts have the prefixes of the leaves.
+pub fn cat_has_leaves()
+    ensures { (g : Grid) (log : List LogEvent) (p : List ℕ) → has_leaf p (cat g log) ≡ is_leaf g log p }
+{}
+
+/// No leaf counts more than the live objects, and the leaf of a live object counts it.
+pub fn cat_counts()
+    ensures within { (g : Grid) (log : List LogEvent) → All (λ l. l.count ≤ length (live (updates_of log))) (cat g log) }
+    ensures some { (g : Grid) (log : List LogEvent) (o : Object) (rest : List Object) → SameElements (live (updates_of log)) (o ∷ rest)
+        → All (λ l. begins l.prefix (g.perm o.vector) ≡ true → 0 < l.count) (cat g log) }
+{}
+
+/// Without pivots the leaves are the one cell.
+pub fn cat_without_pivots()
+    ensures { (m : MetricSpace) (log : List LogEvent) → AllMaySplit (grid_of (record { metric = m; pivots = [] }) 0) log → cat (grid_of (record { metric = m; pivots = [] }) 0) log ≡ catalog log }
+{}
