@@ -9,24 +9,24 @@ use std::collections::BTreeMap;
 use std::fs;
 use std::test::Fail;
 
-const PLANE: &str = "metric,l1\ndims,2\nlevels,0\ncell,4\nupdates,8\npages,4\n";
+const PLANE: &[u8] = b"metric,l1\ndims,2\nlevels,0\ncell,4\nupdates,8\npages,4\n";
 
-const NEAR: &str = "insert,7,0,0\ninsert,9,3,4\nrange,7,0,0\n";
+const NEAR: &[u8] = b"insert,7,0,0\ninsert,9,3,4\nrange,7,0,0\n";
 
 const NEAR_TEXT: &str =
     "session,0\nstored,1\nstored,2\nrange,2,0,2,1,2\n0,7\n7,9\nhistory,2,0\ninsert,0,1,7,0,0\ninsert,0,2,9,3,4\ncells,1\n-,2\nentries,2\npages,1,4\n";
 
 fn files_of(
     alloc: Global,
-    settings: &str,
-    schedule: &str,
-    script: &str,
+    settings: &[u8],
+    schedule: &[u8],
+    script: &[u8],
     fails: &[u64],
 ) -> Result<MemoryFiles, Fail> {
     let mut files = MemoryFiles::new(alloc, fails)?;
-    files.add(alloc, "settings", settings.as_bytes())?;
-    files.add(alloc, "schedule", schedule.as_bytes())?;
-    files.add(alloc, "script", script.as_bytes())?;
+    files.add(alloc, "settings", settings)?;
+    files.add(alloc, "schedule", schedule)?;
+    files.add(alloc, "script", script)?;
     Ok(files)
 }
 
@@ -57,7 +57,11 @@ fn each_script_has_its_transcript(rt: HostRuntime) -> Result<(), Fail> {
             "insert,7,0,0\ninsert,9,3,4\nrange,6,0,0\n",
             "session,0\nstored,1\nstored,2\nrange,2,0,1,1,2\n0,7\nhistory,2,0\ninsert,0,1,7,0,0\ninsert,0,2,9,3,4\ncells,1\n-,2\nentries,2\npages,1,4\n",
         ),
-        (PLANE, NEAR, NEAR_TEXT),
+        (
+            PLANE,
+            "insert,7,0,0\ninsert,9,3,4\nrange,7,0,0\n",
+            NEAR_TEXT,
+        ),
         (
             PLANE,
             "range,5,0,0\ninsert,7,0,0\nrange,0,0,0\n",
@@ -74,22 +78,22 @@ fn each_script_has_its_transcript(rt: HostRuntime) -> Result<(), Fail> {
             "session,0\nstored,1\nremoved,2\nabsent,2,0\nstored,3\nhistory,3,0\ninsert,0,1,7,0,0\ndelete,0,2,7\ninsert,0,4,7,5,5\ncells,1\n-,1\nentries,1\npages,1,4\n",
         ),
         (
-            "metric,l1\ndims,2\nlevels,0\ncell,4\nupdates,2\npages,4\n",
+            b"metric,l1\ndims,2\nlevels,0\ncell,4\nupdates,2\npages,4\n",
             "insert,1,0,0\ninsert,2,1,0\ninsert,3,2,0\ndelete,9\ndelete,1\nrange,0,1,0\n",
             "session,0\nstored,1\nstored,2\nfull,2\nabsent,2,0\nfull,2\nrange,2,0,1,1,2\n0,2\nhistory,2,0\ninsert,0,1,1,0,0\ninsert,0,2,2,1,0\ncells,1\n-,2\nentries,2\npages,1,4\n",
         ),
         (
-            "metric,max\ndims,2\nlevels,0\ncell,4\nupdates,8\npages,4\n",
+            b"metric,max\ndims,2\nlevels,0\ncell,4\nupdates,8\npages,4\n",
             "insert,7,0,0\ninsert,9,3,4\nrange,4,0,0\n",
             "session,0\nstored,1\nstored,2\nrange,2,0,2,1,2\n0,7\n4,9\nhistory,2,0\ninsert,0,1,7,0,0\ninsert,0,2,9,3,4\ncells,1\n-,2\nentries,2\npages,1,4\n",
         ),
         (
-            "metric,hamming\ndims,2\nlevels,0\ncell,4\nupdates,8\npages,4\n",
+            b"metric,hamming\ndims,2\nlevels,0\ncell,4\nupdates,8\npages,4\n",
             "insert,7,0,0\ninsert,9,3,4\nrange,1,0,0\n",
             "session,0\nstored,1\nstored,2\nrange,2,0,1,1,2\n0,7\nhistory,2,0\ninsert,0,1,7,0,0\ninsert,0,2,9,3,4\ncells,1\n-,2\nentries,2\npages,1,4\n",
         ),
         (
-            "metric,table\ndims,1\nrow,0,1,2\nrow,1,0,1\nrow,2,1,0\nlevels,0\ncell,4\nupdates,8\npages,4\n",
+            b"metric,table\ndims,1\nrow,0,1,2\nrow,1,0,1\nrow,2,1,0\nlevels,0\ncell,4\nupdates,8\npages,4\n",
             "insert,1,0\ninsert,2,2\nrange,1,1\n",
             "session,0\nstored,1\nstored,2\nrange,2,0,2,1,2\n1,1\n1,2\nhistory,2,0\ninsert,0,1,1,0\ninsert,0,2,2,2\ncells,1\n-,2\nentries,2\npages,1,4\n",
         ),
@@ -105,7 +109,7 @@ fn each_script_has_its_transcript(rt: HostRuntime) -> Result<(), Fail> {
         ),
     ];
     for (settings, script, text) in cases {
-        let mut files = files_of(alloc, settings, "", script, &[])?;
+        let mut files = files_of(alloc, settings, b"", script.as_bytes(), &[])?;
         let mut out = MemorySink::new(alloc, 1000, &[], 10_000)?;
         let status = replay_call(alloc, words.as_slice(), &mut files, &mut out);
         assert_eq!(rt; status, 0, "{script}");
@@ -114,68 +118,256 @@ fn each_script_has_its_transcript(rt: HostRuntime) -> Result<(), Fail> {
     Ok(())
 }
 
+/// Files that are not of their form: settings, schedule and script, the status, and the whole text.
+static FAULTS: [(&[u8], &[u8], &[u8], u8, &[u8]); 62] = [
+    (
+        b"metric,table\ndims,1\nrow,0,1,3\nrow,1,0,1\nrow,3,1,0\nlevels,0\ncell,4\nupdates,8\npages,4\n",
+        b"x",
+        b"x",
+        2,
+        b"fault,0,0,triangle,0,1,2\n",
+    ),
+    (
+        b"metric,table\ndims,1\nrow,0,1,2\nrow,1,0,1\nrow,2,2,0\nlevels,0\ncell,4\nupdates,8\npages,4\n",
+        b"",
+        b"",
+        2,
+        b"fault,0,0,asymmetric,1,2\n",
+    ),
+    (
+        b"metric,table\ndims,1\nrow,0,0\nrow,0,0\nlevels,0\ncell,4\nupdates,8\npages,4\n",
+        b"",
+        b"",
+        2,
+        b"fault,0,0,zero,0,1\n",
+    ),
+    (
+        b"metric,table\ndims,1\nrow,0,1\nrow,1\nlevels,0\ncell,4\nupdates,8\npages,4\n",
+        b"",
+        b"",
+        2,
+        b"fault,0,0,notsquare,1\n",
+    ),
+    (
+        b"metric,table\ndims,1\nrow,0,1\nrow,1,1\nlevels,0\ncell,4\nupdates,8\npages,4\n",
+        b"",
+        b"",
+        2,
+        b"fault,0,0,diagonal,1\n",
+    ),
+    (b"", b"", b"", 2, b"fault,0,1,end\n"),
+    (b"\0", b"", b"", 2, b"fault,0,1,word\n"),
+    (b"\xff\xfe", b"", b"", 2, b"fault,0,1,word\n"),
+    (b"metric,l2\n", b"", b"", 2, b"fault,0,1,word\n"),
+    (b"metric,l1,l1\n", b"", b"", 2, b"fault,0,1,fields\n"),
+    (b"metric,l1\n", b"0,op\n", b"x\n", 2, b"fault,0,2,end\n"),
+    (b"metric,l1\ndims,65\n", b"", b"", 2, b"fault,0,2,range\n"),
+    (b"metric,l1\ndims,x\n", b"", b"", 2, b"fault,0,2,number\n"),
+    (b"metric,l1\ndims,\n", b"", b"", 2, b"fault,0,2,number\n"),
+    (
+        b"metric,l1\r\ndims,2\r\nrow,0\r\n",
+        b"",
+        b"",
+        2,
+        b"fault,0,3,word\n",
+    ),
+    (
+        b"metric,l1\ndims,2\npivot,0,0\n",
+        b"",
+        b"",
+        2,
+        b"fault,0,3,unbuilt\n",
+    ),
+    (
+        b"metric,l1\ndims,2\nlevels,1\n",
+        b"",
+        b"",
+        2,
+        b"fault,0,3,range\n",
+    ),
+    (
+        b"metric,max\ndims,2\n\nlevels,0\n\ncell,10001\n",
+        b"",
+        b"",
+        2,
+        b"fault,0,4,range\n",
+    ),
+    (
+        b"metric,l1\ndims,2\nlevels,0\ncell,4\nupdates,8\n",
+        b"",
+        b"",
+        2,
+        b"fault,0,6,end\n",
+    ),
+    (
+        b"metric,l1\ndims,2\nlevels,0\ncell,4\nupdates,8\npages,4\npages,4\n",
+        b"",
+        b"",
+        2,
+        b"fault,0,7,extra\n",
+    ),
+    (
+        b"metric,l1\ndims,2\nlevels,0\ncell,4\nupdates,8\npages,4\npivot,0,0",
+        b"",
+        b"",
+        2,
+        b"fault,0,7,extra\n",
+    ),
+    (
+        b"metric,table\ndims,1\nlevels,0\n",
+        b"",
+        b"",
+        2,
+        b"fault,0,3,word\n",
+    ),
+    (
+        b"metric,table\ndims,1\nrow,0,128000001\n",
+        b"",
+        b"",
+        2,
+        b"fault,0,3,range\n",
+    ),
+    (b"metric,table\ndims,2\n", b"", b"", 2, b"fault,0,2,range\n"),
+    (PLANE, b"0,op\n", b"x\n", 3, b"fault,1,1,unbuilt\n"),
+    (PLANE, b"\n\"\"\n", b"", 3, b"fault,1,1,unbuilt\n"),
+    (PLANE, b"", b"x", 3, b"fault,2,1,word\n"),
+    (PLANE, b"", b"\0", 3, b"fault,2,1,word\n"),
+    (PLANE, b"", b"ins\xc3\xa9rt,1,0,0\n", 3, b"fault,2,1,word\n"),
+    (PLANE, b"", b"INSERT,1,0,0\n", 3, b"fault,2,1,word\n"),
+    (
+        PLANE,
+        b"",
+        b"insert,7,0,0\ninsert,9,3",
+        3,
+        b"fault,2,2,fields\n",
+    ),
+    (PLANE, b"", b"insert,1,0,0,0\n", 3, b"fault,2,1,fields\n"),
+    (
+        PLANE,
+        b"",
+        b"insert,1,0,0\n\n\ninsert,2,x,0\n",
+        3,
+        b"fault,2,2,number\n",
+    ),
+    (PLANE, b"", b"insert,,0,0\n", 3, b"fault,2,1,number\n"),
+    (PLANE, b"", b"insert,-,0,0\n", 3, b"fault,2,1,number\n"),
+    (PLANE, b"", b"insert,+-1,0,0\n", 3, b"fault,2,1,number\n"),
+    (
+        PLANE,
+        b"",
+        b"insert,000000000000000000001,0,0\n",
+        3,
+        b"fault,2,1,number\n",
+    ),
+    (
+        PLANE,
+        b"",
+        b"insert,00000000000000000000000000001,0,0\n",
+        3,
+        b"fault,2,1,number\n",
+    ),
+    (
+        PLANE,
+        b"",
+        b"insert,99999999999999999999,0,0\n",
+        3,
+        b"fault,2,1,range\n",
+    ),
+    (
+        PLANE,
+        b"",
+        b"insert,1099511627776,0,0\n",
+        3,
+        b"fault,2,1,range\n",
+    ),
+    (PLANE, b"", b"insert,-1,0,0\n", 3, b"fault,2,1,range\n"),
+    (PLANE, b"", b"insert,1,1000001,0\n", 3, b"fault,2,1,range\n"),
+    (
+        PLANE,
+        b"",
+        b"insert,1,0,-1000001\n",
+        3,
+        b"fault,2,1,range\n",
+    ),
+    (PLANE, b"", b"delete,1,1\n", 3, b"fault,2,1,fields\n"),
+    (PLANE, b"", b"delete,1\rdelete\r", 3, b"fault,2,2,fields\n"),
+    (PLANE, b"", b"delete, 1\n", 3, b"fault,2,1,number\n"),
+    (
+        PLANE,
+        b"",
+        b"range,2147483648,0,0\n",
+        3,
+        b"fault,2,1,range\n",
+    ),
+    (PLANE, b"", b"range,1,0\n", 3, b"fault,2,1,fields\n"),
+    (PLANE, b"", b"nearest,1,0,0\n", 3, b"fault,2,1,unbuilt\n"),
+    (PLANE, b"", b"\"delete,1\n", 3, b"fault,2,1,word\n"),
+    (
+        PLANE,
+        b"",
+        b"\xef\xbb\xbf\xef\xbb\xbfdelete,1\n",
+        3,
+        b"fault,2,1,word\n",
+    ),
+    (b"metric,l1\n\"dims,2\n", b"", b"", 2, b"fault,0,2,word\n"),
+    (b"dims,2\nmetric,l1\n", b"", b"", 2, b"fault,0,1,word\n"),
+    (
+        b"metric,hamming\ndims,0\n",
+        b"",
+        b"",
+        2,
+        b"fault,0,2,range\n",
+    ),
+    (
+        b"metric,hamming\ndims\n",
+        b"",
+        b"",
+        2,
+        b"fault,0,2,fields\n",
+    ),
+    (
+        b"metric,l1\ndims,2\nlevels,0\ncell,0\n",
+        b"",
+        b"",
+        2,
+        b"fault,0,4,range\n",
+    ),
+    (
+        b"metric,l1\ndims,2\nlevels,0\ncell,4\nupdates,200001\n",
+        b"",
+        b"",
+        2,
+        b"fault,0,5,range\n",
+    ),
+    (
+        b"metric,l1\ndims,2\nlevels,0\ncell,4\nupdates,8\npages,+\n",
+        b"",
+        b"",
+        2,
+        b"fault,0,6,number\n",
+    ),
+    (PLANE, b"", b"delete\n", 3, b"fault,2,1,fields\n"),
+    (
+        PLANE,
+        b"",
+        b"delete,1099511627776\n",
+        3,
+        b"fault,2,1,range\n",
+    ),
+    (PLANE, b"", b"range,-1,0,0\n", 3, b"fault,2,1,range\n"),
+    (PLANE, b"", b"range,x,0,0\n", 3, b"fault,2,1,number\n"),
+];
+
 #[test]
 fn each_fault_has_its_line(rt: HostRuntime) -> Result<(), Fail> {
     let alloc = rt.alloc();
     let words = replay_words(alloc)?;
-    let table = "metric,table\ndims,1\n";
-    let sizes = "levels,0\ncell,4\nupdates,8\npages,4\n";
-    let triangle = format!(in alloc; "{table}row,0,1,3\nrow,1,0,1\nrow,3,1,0\n{sizes}")?;
-    let asymmetric = format!(in alloc; "{table}row,0,1,2\nrow,1,0,1\nrow,2,2,0\n{sizes}")?;
-    let zero = format!(in alloc; "{table}row,0,0\nrow,0,0\n{sizes}")?;
-    let not_square = format!(in alloc; "{table}row,0,1\nrow,1\n{sizes}")?;
-    let diagonal = format!(in alloc; "{table}row,0,1\nrow,1,1\n{sizes}")?;
-    let cases = [
-        (triangle.as_str(), "", "", 2, "fault,0,0,triangle,0,1,2\n"),
-        (asymmetric.as_str(), "", "", 2, "fault,0,0,asymmetric,1,2\n"),
-        (zero.as_str(), "", "", 2, "fault,0,0,zero,0,1\n"),
-        (not_square.as_str(), "", "", 2, "fault,0,0,notsquare,1\n"),
-        (diagonal.as_str(), "", "", 2, "fault,0,0,diagonal,1\n"),
-        // The table is looked at before the next file.
-        (triangle.as_str(), "x", "x", 2, "fault,0,0,triangle,0,1,2\n"),
-        ("", "", "", 2, "fault,0,1,end\n"),
-        ("metric,l2\n", "", "", 2, "fault,0,1,word\n"),
-        (
-            "metric,l1\ndims,2\npivot,0,0\n",
-            "",
-            "",
-            2,
-            "fault,0,3,unbuilt\n",
-        ),
-        ("metric,l1\ndims,65\n", "", "", 2, "fault,0,2,range\n"),
-        ("metric,l1\ndims,x\n", "", "", 2, "fault,0,2,number\n"),
-        // A bad settings file comes before a bad schedule, and that before a bad script.
-        ("metric,l1\n", "0,op\n", "x\n", 2, "fault,0,2,end\n"),
-        (PLANE, "0,op\n", "x\n", 3, "fault,1,1,unbuilt\n"),
-        (
-            PLANE,
-            "",
-            "insert,7,0,0\ninsert,9,3",
-            3,
-            "fault,2,2,fields\n",
-        ),
-        (
-            PLANE,
-            "",
-            "insert,1,0,0\ninsert,2,x,0\n",
-            3,
-            "fault,2,2,number\n",
-        ),
-        (PLANE, "", "nearest,1,0,0\n", 3, "fault,2,1,unbuilt\n"),
-        (
-            PLANE,
-            "",
-            "insert,1099511627776,0,0\n",
-            3,
-            "fault,2,1,range\n",
-        ),
-    ];
-    for (settings, schedule, script, status, text) in cases {
+    for (settings, schedule, script, status, text) in &FAULTS {
         let mut files = files_of(alloc, settings, schedule, script, &[])?;
         let mut out = MemorySink::new(alloc, 7, &[], 1000)?;
         let told = replay_call(alloc, words.as_slice(), &mut files, &mut out);
-        assert_eq!(rt; told, status, "{text}");
-        assert_eq!(rt; out.bytes(), text.as_bytes(), "{text}");
+        assert_eq!(rt; out.bytes(), *text);
+        assert_eq!(rt; told, *status);
     }
     Ok(())
 }
@@ -187,7 +379,7 @@ fn a_file_above_the_bound_is_too_large(rt: HostRuntime) -> Result<(), Fail> {
     let most = 67_108_864usize;
     for (bytes, text) in [(most, "fault,2,1,word\n"), (most + 1, "fault,2,0,large\n")] {
         let script = vec![in alloc; b'x'; bytes]?;
-        let mut files = files_of(alloc, PLANE, "", "", &[])?;
+        let mut files = files_of(alloc, PLANE, b"", b"", &[])?;
         files.add(alloc, "script", script.as_slice())?;
         let mut out = MemorySink::new(alloc, 100, &[], 100)?;
         let status = replay_call(alloc, words.as_slice(), &mut files, &mut out);
@@ -214,7 +406,7 @@ fn other_words_have_the_usage_line(rt: HostRuntime) -> Result<(), Fail> {
     ];
     for case in cases {
         let words = words_of(alloc, case)?;
-        let mut files = files_of(alloc, PLANE, "", NEAR, &[])?;
+        let mut files = files_of(alloc, PLANE, b"", NEAR, &[])?;
         let mut out = MemorySink::new(alloc, 1000, &[], 1000)?;
         let gate = OpenGate::new();
         let status = mindex(&rt, alloc, words.as_slice(), &mut files, &mut out, &gate);
@@ -230,7 +422,7 @@ fn each_failed_read_and_write_is_told(rt: HostRuntime) -> Result<(), Fail> {
     let words = replay_words(alloc)?;
     let unread = ["unread,0\n", "unread,1\n", "unread,2\n"];
     for (place, text) in unread.iter().enumerate() {
-        let mut files = files_of(alloc, PLANE, "", NEAR, &[place as u64 + 1])?;
+        let mut files = files_of(alloc, PLANE, b"", NEAR, &[place as u64 + 1])?;
         let mut out = MemorySink::new(alloc, 8, &[], 1000)?;
         let status = replay_call(alloc, words.as_slice(), &mut files, &mut out);
         assert_eq!(rt; status, 4);
@@ -238,7 +430,7 @@ fn each_failed_read_and_write_is_told(rt: HostRuntime) -> Result<(), Fail> {
     }
     // 24 writes of at most 8 bytes send the text; each of them fails in turn.
     for write in 1..25u64 {
-        let mut files = files_of(alloc, PLANE, "", NEAR, &[])?;
+        let mut files = files_of(alloc, PLANE, b"", NEAR, &[])?;
         let mut out = MemorySink::new(alloc, 8, &[write], 1000)?;
         let status = replay_call(alloc, words.as_slice(), &mut files, &mut out);
         let sent = out.bytes();
@@ -275,6 +467,15 @@ fn scan(
     Ok(text)
 }
 
+/// The record of an update.
+fn update_line(alloc: Global, deletes: bool, id: u64, coordinate: i64) -> Result<String, Fail> {
+    if deletes {
+        Ok(format!(in alloc; "delete,{id}\n")?)
+    } else {
+        Ok(format!(in alloc; "insert,{id},{coordinate}\n")?)
+    }
+}
+
 /// A script by a fixed rule, and the replies that scanning by hand gives.
 fn scanned_script(alloc: Global, seed: u64) -> Result<(String, String), Fail> {
     let mut state = seed;
@@ -297,11 +498,7 @@ fn scanned_script(alloc: Global, seed: u64) -> Result<(String, String), Fail> {
             continue;
         }
         let deletes = turn > 0 && state >> 62 == 1;
-        let line = if deletes {
-            format!(in alloc; "delete,{id}\n")?
-        } else {
-            format!(in alloc; "insert,{id},{coordinate}\n")?
-        };
+        let line = update_line(alloc, deletes, id, coordinate)?;
         script.push_str(line.as_str())?;
         let reply = match (deletes, objects.contains_key(&id)) {
             (true, false) => format!(in alloc; "absent,{updates},0\n")?,
@@ -326,10 +523,10 @@ fn scanned_script(alloc: Global, seed: u64) -> Result<(String, String), Fail> {
 fn replies_are_those_of_a_scan_by_hand(rt: HostRuntime) -> Result<(), Fail> {
     let alloc = rt.alloc();
     let words = replay_words(alloc)?;
-    let line = "metric,l1\ndims,1\nlevels,0\ncell,1\nupdates,100\npages,1\n";
+    let line = b"metric,l1\ndims,1\nlevels,0\ncell,1\nupdates,100\npages,1\n";
     for seed in 0..8u64 {
         let (script, replies) = scanned_script(alloc, seed)?;
-        let mut files = files_of(alloc, line, "", script.as_str(), &[])?;
+        let mut files = files_of(alloc, line, b"", script.as_bytes(), &[])?;
         let mut out = MemorySink::new(alloc, 100, &[], 100_000)?;
         let status = replay_call(alloc, words.as_slice(), &mut files, &mut out);
         assert_eq!(rt; status, 0, "seed {seed}");
@@ -346,7 +543,7 @@ fn real_files_are_read_and_real_output_is_written(rt: HostRuntime) -> Result<(),
     let mut files = RealFiles::new(&rt);
     let mut bytes = Vec::new(alloc);
     assert!(rt; files.read(name, &mut bytes).is_ok());
-    assert_eq!(rt; bytes.as_slice(), NEAR.as_bytes());
+    assert_eq!(rt; bytes.as_slice(), NEAR);
     assert!(rt; files.read("/tmp/mindex_no_such_file", &mut bytes).is_err());
     let mut out = RealOut::new(Vec::new(alloc));
     assert_eq!(rt; out.write(b"pages").ok(), Some(5));
