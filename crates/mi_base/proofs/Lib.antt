@@ -3,3 +3,4 @@ pub mod PermutationLemmas
 pub mod PivotLemmas
 pub mod PrefixLemmas
 pub mod SortingLemmas
+pub mod LiveLemmas

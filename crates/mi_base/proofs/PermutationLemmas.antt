@@ -1,16 +1,12 @@
 -- The fronts of permutations.
 use Rattle.std.proofs.Common.{◌≡◌, ℕ, zero, suc, ◌≤◌, List, [], ◌∷◌, length, take, drop, Bool, true, false, ◌&&◌, IsTrue, nat_eq, nat_lt, nat_le, refl, sym, ap, ◌∙◌, arith}
 use Rattle.std.specs.List.{list_all, starts_with}
-use Rattle.std.proofs.lemmas.Bool.{and_parts, leb-true, false≢true}
+use Rattle.std.proofs.lemmas.Bool.{and_from, and_parts, leb-true, false≢true}
 use Rattle.std.proofs.lemmas.Bool.Decides.{nat_tests}
 use Rattle.std.proofs.lemmas.List.{take-append-drop, length-take-le}
 use Rattle.mi_base.specs.Prefixes.{all_below, are_different, is_prefix}
 use Rattle.mi_base.specs.Permutations.{is_permutation, begins}
 use Rattle.mi_base.proofs.PrefixLemmas.{are_different-front}
-
-pub and_both : (a b : Bool) → IsTrue a → IsTrue b → IsTrue (a && b)
-and_both true b h k = k
-and_both false b h k = h
 
 -- what is below one number is below a greater one
 pub all_below-more : (m n : ℕ) (xs : List ℕ) → m ≤ n → IsTrue (all_below m xs) → IsTrue (all_below n xs)
@@ -19,14 +15,14 @@ all_below-more m n (x ∷ xs) le h =
     let parts = and_parts (nat_lt x m) (all_below m xs) h in
     let below : nat_lt x m ≡ true = parts.0 in
     let low : nat_lt x n ≡ true = grind (arith, nat_tests) in
-    and_both (nat_lt x n) (all_below n xs) low (all_below-more m n xs le parts.1)
+    and_from (nat_lt x n) (all_below n xs) low (all_below-more m n xs le parts.1)
 
 list_all-take : {X : Type 0} (p : X → Bool) (n : ℕ) (xs : List X) → IsTrue (list_all p xs) → IsTrue (list_all p (take n xs))
 list_all-take p zero xs h = refl
 list_all-take p (suc n) [] h = refl
 list_all-take p (suc n) (x ∷ xs) h =
     let parts = and_parts (p x) (list_all p xs) h in
-    and_both (p x) (list_all p (take n xs)) parts.0 (list_all-take p n xs parts.1)
+    and_from (p x) (list_all p (take n xs)) parts.0 (list_all-take p n xs parts.1)
 
 pub are_different-take : (n : ℕ) (xs : List ℕ) → IsTrue (are_different xs) → IsTrue (are_different (take n xs))
 are_different-take n xs h =
@@ -43,8 +39,8 @@ is_prefix-take n ps few within h =
     let size : length (take n ps) ≡ n = length-take-le n ps within in
     let short : nat_le (length (take n ps)) 6 ≡ true = grind (arith, nat_tests) in
     let small : length ps ≤ 32 = leb-true (length ps) 32 parts.0 in
-    and_both _ _ short
-    (and_both _ _ (list_all-take (λ x. nat_lt x 32) n ps (all_below-more (length ps) 32 ps small rest.0)) (are_different-take n ps rest.1))
+    and_from _ _ short
+    (and_from _ _ (list_all-take (λ x. nat_lt x 32) n ps (all_below-more (length ps) 32 ps small rest.0)) (are_different-take n ps rest.1))
 
 -- `begins` is std's test, the other way about
 pub begins-starts_with : (xs ys : List ℕ) → starts_with nat_eq ys xs ≡ begins xs ys

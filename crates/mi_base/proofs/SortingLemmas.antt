@@ -13,9 +13,6 @@ use Rattle.std.proofs.lemmas.List.Elements.{recursion_from_All}
 use Rattle.std.proofs.lemmas.Map.Lookups.{CmpEqualImpliesEq}
 use Rattle.mi_base.specs.Sorting.{put, sorted, Ascends, SameElements}
 
-pub same_refl : {X : Type 0} (xs : List X) → SameElements xs xs
-same_refl xs = record { sums = λ f. refl }
-
 pub same_sym : {X : Type 0} {xs ys : List X} → SameElements xs ys → SameElements ys xs
 same_sym s = record { sums = λ f. sym (s.sums f) }
 
@@ -197,17 +194,6 @@ module _ {X : Type 0} (cmp : X → X → Ordering) (order : IsTotalOrder cmp) wh
   ascends_filter_any p (x ∷ xs) a =
       let Q : Bool → Type 0 = λ b. Ascends cmp (cond b (x ∷ filter p xs) (filter p xs)) in
       elim (p x) as Q [ true ↦ (filter_keeps _ p xs a.0, ascends_filter_any p xs a.1) | false ↦ ascends_filter_any p xs a.1 ]
-
-pub all_put : {X : Type 0} (cmp : X → X → Ordering) (P : X → Type 0) (x : X) (xs : List X) → P x → AllByRecursion P xs → AllByRecursion P (put cmp x xs)
-all_put cmp P x [] p h = (p, tt)
-all_put cmp P x (y ∷ ys) p h =
-    let Q : Bool → Type 0 = λ b. AllByRecursion P (cond b (y ∷ put cmp x ys) (x ∷ y ∷ ys)) in
-    elim (is_lt (cmp y x)) as Q [ true ↦ (h.0, all_put cmp P x ys p h.1) | false ↦ (p, h) ]
-
--- what holds of each element holds of each when they are sorted
-pub all_sorted : {X : Type 0} (cmp : X → X → Ordering) (P : X → Type 0) (xs : List X) → AllByRecursion P xs → AllByRecursion P (sorted cmp xs)
-all_sorted cmp P [] h = tt
-all_sorted cmp P (x ∷ xs) h = all_put cmp P x (sorted cmp xs) h.0 (all_sorted cmp P xs h.1)
 
 ones : {X : Type 0} (xs : List X) → sum_by (λ _. 1) xs ≡ length xs
 ones [] = refl

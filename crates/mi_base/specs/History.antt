@@ -1,7 +1,7 @@
 -- The history, what is live after it, the log, and the answers by scan.
-use Rattle.std.specs.Prelude.{◌≡◌, ◌<◌, ◌≤◌, IsTrue, length, ℕ, ℤ, ◌+◌, ◌-◌, ◌==◌, List, [], ◌∷◌, ◌++◌, Bool, not, nat_le, map, take}
+use Rattle.std.specs.Prelude.{◌≡◌, ◌<◌, ◌≤◌, IsTrue, false, length, ℕ, ℤ, ◌+◌, ◌-◌, ◌==◌, List, [], ◌∷◌, ◌++◌, Bool, not, nat_le, map, take}
 use Rattle.std.specs.declared.cmp.Ordering.{Ordering}
-use Rattle.std.specs.List.{filter, fold, list_any, filter_map}
+use Rattle.std.specs.List.{AllByRecursion, filter, fold, list_any, filter_map}
 use Rattle.std.specs.Prelude.{Option, Some, None}
 use Rattle.std.specs.Ordering.{nat_cmp, ordering_then}
 use Rattle.mi_base.specs.declared.records.Update.{Update}
@@ -11,7 +11,7 @@ use Rattle.mi_base.specs.declared.records.LogEvent.TheVariants.{Update as Made, 
 use Rattle.mi_base.specs.declared.records.Position.{Position}
 use Rattle.mi_base.specs.declared.records.Row.{Row}
 use Rattle.mi_base.specs.Space.{MetricSpace}
-use Rattle.mi_base.specs.Sorting.{sorted}
+use Rattle.mi_base.specs.Sorting.{sorted, SameElements}
 
 -- a live object: its identifier and its vector
 pub record Object : Type 0 where
@@ -84,6 +84,21 @@ pub record IsPosition (log : List LogEvent) (p : Position) : Type 0 where
   pub within : events_at p ≤ length log
   pub updates : length (updates_of (at_position log p)) ≡ p.updates
 
+-- the one object of an identifier among some, beside the others
+pub record TheOne (id : ℕ) (objects : List Object) : Type 0 where
+  pub object : Object
+  pub named : object.id ≡ id
+  pub whole : SameElements objects (object ∷ filter (λ o. not (o.id == id)) objects)
+
+-- no identifier stands twice
+abbrev pub Once : List Object → Type 0
+Once [] = Unit {0}
+Once (o ∷ objects) = AllByRecursion (λ x. (x.id == o.id) ≡ false) objects × Once objects
+
+-- how many splits a log has
+abbrev pub splits_of : List LogEvent → ℕ
+splits_of log = length log - length (updates_of log)
+
 -- the position of a log's end
 abbrev pub end_of : List LogEvent → Position
-end_of log = record { updates = length (updates_of log); splits = length log - length (updates_of log) }
+end_of log = record { updates = length (updates_of log); splits = splits_of log }

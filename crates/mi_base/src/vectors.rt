@@ -7,7 +7,7 @@ use arrayvec::ArrayVec;
 use std::marker::Model;
 
 /// The greatest absolute value of a coordinate.
-pub const MAX_COORDINATE: i64 = 1_000_000;
+const MAX_COORDINATE: i64 = 1_000_000;
 
 /// A vector of 1 to 64 coordinates, each from -1,000,000 to 1,000,000.
 #[derive(Drop)]

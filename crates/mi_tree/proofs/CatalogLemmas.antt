@@ -2,7 +2,7 @@
 use Rattle.std.proofs.Common.{◌≡◌, ℕ, suc, zero, ◌+◌, ◌-◌, ◌<◌, ◌≤◌, List, [], ◌∷◌, ◌++◌, map, length, take, get_or, Bool, true, false, IsTrue, cond, not, ◌&&◌, nat_eq, nat_lt, nat_le, refl, sym, ap, ◌∙◌, subst, arith, append_assoc, append-nil, length-append, add-one}
 use Rattle.std.specs.List.{filter, flat_map, range_with_len}
 use Rattle.std.specs.Prelude.{slice_get, slice_set, IfSome}
-use Rattle.std.proofs.lemmas.Bool.{and_parts, false≢true}
+use Rattle.std.proofs.lemmas.Bool.{and_from, and_parts, false≢true}
 use Rattle.std.proofs.lemmas.Bool.Decides.{nat_tests}
 use Rattle.std.proofs.lemmas.List.{take_more, map-append, flat_map_more, length-map}
 use Rattle.std.proofs.lemmas.List.Elements.{filter-append}
@@ -10,7 +10,6 @@ use Rattle.std.proofs.lemmas.List.Folds.{list_all-append}
 use Rattle.mi_base.specs.Prefixes.{has, is_prefix, all_below, are_different}
 use Rattle.mi_base.specs.Permutations.{begins}
 use Rattle.mi_base.specs.Configuration.{IsDepth}
-use Rattle.mi_base.proofs.PermutationLemmas.{and_both}
 use Rattle.mi_base.proofs.PrefixLemmas.{are_different-append}
 use Rattle.mi_tree.specs.declared.outcomes.Leaf.{Leaf}
 use Rattle.mi_tree.specs.declared.counts.Placed.{Placed}
@@ -32,7 +31,7 @@ prefix_more p i h short low new =
     let known : nat_lt i 32 ≡ true = grind (arith, nat_tests) in
     let below : all_below 32 (p ++ i ∷ []) ≡ true = list_all-append (λ x. nat_lt x 32) p (i ∷ []) ∙ (rw (rest.0, known) refl) in
     let apart : are_different (p ++ i ∷ []) ≡ true = are_different-append p i ∙ (rw (new, rest.1) refl) in
-    and_both _ _ few (and_both _ _ below apart)
+    and_from _ _ few (and_from _ _ below apart)
 
 -- the number of leaves that begin a permutation is that of prefixes
 pub beginning_counts : (perm : List ℕ) (ls : List Leaf) → length (beginning perm ls) ≡ length (filter (λ p. begins p perm) (prefixes ls))

@@ -10,6 +10,7 @@ use Rattle.mi_base.specs.Permutations.{begins}
 use Rattle.mi_base.specs.Sorting.{SameElements}
 use Rattle.mi_base.specs.History.{Object, live, updates_of}
 use Rattle.mi_base.specs.Space.{MetricSpace, Space}
+use Rattle.mi_base.proofs.LiveLemmas.{length_filter}
 use Rattle.mi_base.proofs.SortingLemmas.{same_filter, same_length}
 use Rattle.mi_tree.specs.declared.outcomes.Leaf.{Leaf}
 use Rattle.mi_tree.specs.Catalog.{is_insert, hull_after, catalog}
@@ -28,19 +29,11 @@ any_map t f (x ∷ xs) = ap (λ b. t (f x) || b) (any_map t f xs)
 pub cat_has : (g : Grid) (log : List LogEvent) (p : List ℕ) → has_leaf p (cat g log) ≡ is_leaf g log p
 cat_has g log p = any_map (λ (l : Leaf). same_cell p l.prefix) (leaf_with g (held g log)) (leaves g log)
 
--- a test keeps no more than there are
-fewer : {X : Type 0} (t : X → Bool) (xs : List X) → length (filter t xs) ≤ length xs
-fewer t [] = omega arith
-fewer t (x ∷ xs) =
-    let P : Bool → Type 0 = λ b. length (cond b (x ∷ filter t xs) (filter t xs)) ≤ length (x ∷ xs) in
-    let r = fewer t xs in
-    elim (t x) as P [ true ↦ omega arith | false ↦ omega arith ]
-
 -- no leaf counts more than the live objects
 pub counts_within : (g : Grid) (log : List LogEvent) → All (λ l. l.count ≤ length (live (updates_of log))) (cat g log)
 counts_within g log =
     let P : Leaf → Type 0 = λ l. l.count ≤ length (live (updates_of log)) in
-    let one : (p : List ℕ) → P (leaf_with g (held g log) p) = λ p. let n = fewer (belongs g p) (held g log).live in omega (arith, n, ap length (held_live g log)) in
+    let one : (p : List ℕ) → P (leaf_with g (held g log) p) = λ p. let n = length_filter (belongs g p) (held g log).live in omega (arith, n, ap length (held_live g log)) in
     All-from_recursion P (cat g log) (all_map (leaf_with g (held g log)) P (leaves g log) (all_any _ one (leaves g log)))
 
 -- the leaf of a live object counts it

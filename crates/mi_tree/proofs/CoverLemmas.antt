@@ -2,25 +2,24 @@
 use Rattle.std.proofs.Common.{◌≡◌, ℕ, ◌≤◌, List, [], ◌∷◌, map, Bool, true, false, cond, not, ◌&&◌, ◌||◌, nat_eq, nat_le, refl, sym, ap, ◌∙◌, arith, min, Option, Some, None}
 use Rattle.std.specs.Prelude.{max}
 use Rattle.std.specs.List.{filter, fold, list_all}
-use Rattle.std.proofs.lemmas.Bool.{and_parts, false≢true, leb-true}
+use Rattle.std.proofs.lemmas.Bool.{and_from, and_parts, false≢true, leb-true}
 use Rattle.std.proofs.lemmas.Bool.Decides.{nat_tests}
 use Rattle.std.proofs.lemmas.List.Folds.{list_all-append}
 use Rattle.mi_base.specs.declared.records.Update.TheVariants.{Insert, Delete}
 use Rattle.mi_base.specs.declared.records.LogEvent.{LogEvent}
 use Rattle.mi_base.specs.declared.records.LogEvent.TheVariants.{Update as Made, Split}
 use Rattle.mi_base.specs.History.{Object, live, updates_of}
-use Rattle.mi_base.proofs.PermutationLemmas.{and_both}
 use Rattle.mi_tree.specs.Cells.{Grid}
 use Rattle.mi_tree.specs.Counting.{widen, hull_of, in_hull, Held, belongs, held_after, held, leaf_with}
 use Rattle.mi_tree.proofs.CatLemmas.{held_live}
 
 -- a widened interval has its number
 widen_has : (d : ℕ) (h : Option (ℕ × ℕ)) → in_hull d (widen d h) ≡ true
-widen_has d None = let low : nat_le d d ≡ true = grind (arith, nat_tests) in and_both (nat_le d d) (nat_le d d) low low
+widen_has d None = let low : nat_le d d ≡ true = grind (arith, nat_tests) in and_from (nat_le d d) (nat_le d d) low low
 widen_has d (Some h) =
     let low : nat_le (min h.0 d) d ≡ true = grind (arith, nat_tests) in
     let high : nat_le d (max h.1 d) ≡ true = grind (arith, nat_tests) in
-    and_both _ _ low high
+    and_from _ _ low high
 
 -- a widened interval has what it had
 widen_keeps : (e d : ℕ) (h : Option (ℕ × ℕ)) → in_hull d h ≡ true → in_hull d (widen e h) ≡ true
@@ -31,18 +30,18 @@ widen_keeps e d (Some h) k =
     let u : d ≤ h.1 = leb-true d h.1 parts.1 in
     let low : nat_le (min h.0 e) d ≡ true = grind (arith, nat_tests) in
     let high : nat_le d (max h.1 e) ≡ true = grind (arith, nat_tests) in
-    and_both _ _ low high
+    and_from _ _ low high
 
 -- a weaker test passes too
 all_kept : {X : Type 0} (t u : X → Bool) → ((x : X) → t x ≡ true → u x ≡ true) → (xs : List X) → list_all t xs ≡ true → list_all u xs ≡ true
 all_kept t u imp [] h = refl
-all_kept t u imp (x ∷ xs) h = let parts = and_parts (t x) (list_all t xs) h in and_both (u x) (list_all u xs) (imp x parts.0) (all_kept t u imp xs parts.1)
+all_kept t u imp (x ∷ xs) h = let parts = and_parts (t x) (list_all t xs) h in and_from (u x) (list_all u xs) (imp x parts.0) (all_kept t u imp xs parts.1)
 
 -- the hull of the numbers of a list has each
 pub hull_covers : {X : Type 0} (f : X → ℕ) (xs : List X) → list_all (λ x. in_hull (f x) (hull_of (map f xs))) xs ≡ true
 hull_covers f [] = refl
 hull_covers f (x ∷ xs) =
-    and_both _ _ (widen_has (f x) (hull_of (map f xs)))
+    and_from _ _ (widen_has (f x) (hull_of (map f xs)))
     (all_kept (λ y. in_hull (f y) (hull_of (map f xs))) (λ y. in_hull (f y) (widen (f x) (hull_of (map f xs)))) (λ y k. widen_keeps (f x) (f y) (hull_of (map f xs)) k) xs (hull_covers f xs))
 
 -- a test of what another test keeps
@@ -58,7 +57,7 @@ all_both t u v imp [] h k = refl
 all_both t u v imp (x ∷ xs) h k =
     let a = and_parts (t x) (list_all t xs) h in
     let b = and_parts (u x) (list_all u xs) k in
-    and_both (v x) (list_all v xs) (imp x a.0 b.0) (all_both t u v imp xs a.1 b.1)
+    and_from (v x) (list_all v xs) (imp x a.0 b.0) (all_both t u v imp xs a.1 b.1)
 
 -- what holds of all that were put in holds of the live ones
 abbrev PutLive : Held → Type 0
@@ -79,7 +78,7 @@ put_live_after : (g : Grid) (h : Held) (e : LogEvent) → PutLive h → PutLive 
 put_live_after g h (Made session op (Insert id vector)) all t k =
     let o : Object = record { id = id; vector = vector } in
     let parts = and_parts (t o) (list_all t h.put) k in
-    and_both (t o) (list_all t h.live) parts.0 (all t parts.1)
+    and_from (t o) (list_all t h.live) parts.0 (all t parts.1)
 put_live_after g h (Made session op (Delete id)) all t k =
     all_filter t (λ o. not (nat_eq o.id id)) h.live ∙ all_kept t (λ o. not (not (nat_eq o.id id)) || t o) (λ o m. weaker_or (not (nat_eq o.id id)) (t o) m) h.live (all t k)
 put_live_after g h (Split p) all t k =

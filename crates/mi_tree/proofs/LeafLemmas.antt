@@ -93,7 +93,7 @@ range_one x a (suc n) le lt =
     ]) refl
 
 -- what a split takes one deeper is above the greatest depth
-step_deep : (g : Grid) (perm : List ℕ) (d : ℕ) (e : LogEvent) → MaySplit g e → d ≤ g.levels → depth_after perm d e ≤ g.levels
+pub step_deep : (g : Grid) (perm : List ℕ) (d : ℕ) (e : LogEvent) → MaySplit g e → d ≤ g.levels → depth_after perm d e ≤ g.levels
 step_deep g perm d (Made session op u) h le = le
 step_deep g perm d (Split p) h le =
     let P : Bool → Type 0 = λ b. (nat_eq (length p) d && begins p perm) ≡ b → cond b (d + 1) d ≤ g.levels in

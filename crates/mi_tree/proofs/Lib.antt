@@ -8,3 +8,6 @@ pub mod LeafLemmas
 pub mod ListLemmas
 pub mod OrderLemmas
 pub mod SearchLemmas
+pub mod LegalLemmas
+pub mod SplitsLemmas
+pub mod FitLemmas

@@ -1,4 +1,4 @@
--- The cells after a log. Without pivots there is one, with the empty prefix, and each object belongs to it.
+-- The one cell where there are no pivots: it has the empty prefix, and each object belongs to it.
 use Rattle.std.specs.Prelude.{ℕ, Bool, true, false, List, [], ◌∷◌, length, Option, Some, None, is_some, count_by, if◌then◌else◌}
 use Rattle.std.specs.List.{list_any, filter}
 use Rattle.mi_base.specs.declared.records.Update.{Update}
@@ -15,18 +15,6 @@ is_insert (Delete id) = false
 abbrev pub hull_after : List Update → Option (ℕ × ℕ)
 hull_after history = if list_any is_insert history then Some (0, 0) else None
 
--- the leaves after a log, each with its count of live objects and its hull
+-- what the leaves after a log are without pivots
 abbrev pub catalog : List LogEvent → List Leaf
 catalog log = record { prefix = []; count = length (live (updates_of log)); hull = hull_after (updates_of log) } ∷ []
-
--- without pivots a leaf with a hull is opened at every radius
-abbrev pub passes : Leaf → Bool
-passes leaf = is_some leaf.hull
-
--- how many leaves a query opens
-abbrev pub opened : List LogEvent → ℕ
-opened log = count_by passes (catalog log)
-
--- the live objects whose leaf is opened: the query is compared with each
-abbrev pub candidates : List LogEvent → List Object
-candidates log = filter (λ o. list_any passes (catalog log)) (live (updates_of log))

@@ -1,5 +1,5 @@
 -- The leaves after a log, each with its count and hull, counted over all live objects at once.
-use Rattle.std.specs.Prelude.{◌+◌, ◌-◌, ◌∷◌, ◌++◌, [], ℕ, List, Bool, cond, not, length, map, min, max, nat_lt, nat_le, false, ◌&&◌, Option, Some, None}
+use Rattle.std.specs.Prelude.{◌+◌, ◌-◌, ◌*◌, ◌∷◌, ◌++◌, [], ℕ, List, Bool, cond, not, length, map, min, max, nat_lt, nat_le, false, ◌&&◌, Option, Some, None}
 use Rattle.std.specs.List.{filter, fold, list_any}
 use Rattle.mi_base.specs.declared.records.Update.TheVariants.{Insert, Delete}
 use Rattle.mi_base.specs.declared.records.LogEvent.{LogEvent}
@@ -62,6 +62,14 @@ is_splittable levels leaf = nat_lt (length leaf.prefix) levels
 -- a leaf is to be split: it may be, and has more than so many objects
 abbrev pub is_wanted : ℕ → ℕ → Leaf → Bool
 is_wanted levels cell leaf = is_splittable levels leaf && nat_lt cell leaf.count
+
+-- an insert may not enter a leaf: it may be split, and has four times the cell size
+abbrev pub is_crowded : ℕ → ℕ → Leaf → Bool
+is_crowded levels cell leaf = is_splittable levels leaf && nat_le (4 * cell) leaf.count
+
+-- more than a leaf may ever hold that may be split
+abbrev pub is_overfull : ℕ → ℕ → Leaf → Bool
+is_overfull levels cell leaf = is_splittable levels leaf && nat_lt (4 * cell) leaf.count
 
 -- an object as a catalog is told of it
 abbrev pub placed : Grid → Object → Placed

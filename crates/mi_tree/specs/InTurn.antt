@@ -1,21 +1,17 @@
 -- One script alone: each operation finds the log as those before it left it.
 use Rattle.std.specs.Prelude.{◌≡◌, ℕ, ◌+◌, List, [], ◌∷◌}
 use Rattle.mi_base.specs.declared.records.Reply.{Reply}
-use Rattle.mi_base.specs.declared.records.Reply.TheVariants.{Stored, Removed, Present, Absent, Range, Nearest}
-use Rattle.mi_base.specs.declared.records.Position.{Position}
+use Rattle.mi_base.specs.declared.records.Reply.TheVariants.{Stored, Removed, Present, Absent, Full, Range, Nearest}
 
--- the position of a log with so many updates and no splits
-abbrev pub place : ℕ → Position
-place n = record { updates = n; splits = 0 }
-
--- a reply to an operation that began when the log had n updates
+-- a reply to an operation that began when the log had n updates: a position has these, and a full log has as many as it may
 abbrev pub BeganAt : ℕ → Reply → Type 0
 BeganAt n (Stored number) = number ≡ n + 1
 BeganAt n (Removed number) = number ≡ n + 1
-BeganAt n (Present p) = p ≡ place n
-BeganAt n (Absent p) = p ≡ place n
-BeganAt n (Range p rows cells distances) = p ≡ place n
-BeganAt n (Nearest p rows cells) = p ≡ place n
+BeganAt n (Present p) = p.updates ≡ n
+BeganAt n (Absent p) = p.updates ≡ n
+BeganAt n (Full limit) = n ≡ limit
+BeganAt n (Range p rows cells distances) = p.updates ≡ n
+BeganAt n (Nearest p rows cells) = p.updates ≡ n
 BeganAt n y = Unit {0}
 
 -- how many updates the log has after this reply

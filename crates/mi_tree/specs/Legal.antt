@@ -1,6 +1,6 @@
 -- When a log is legal, and when replies and a log are a legal outcome of scripts.
-use Rattle.std.specs.Prelude.{◌≡◌, ℕ, zero, suc, ◌+◌, ◌<◌, ◌≤◌, ◌==◌, true, false, IsTrue, List, [], ◌∷◌, ◌++◌, length, Option, Some, None, MatchOption}
-use Rattle.std.specs.List.{filter, AllByRecursion}
+use Rattle.std.specs.Prelude.{◌&&◌, ◌≡◌, ℕ, zero, suc, ◌+◌, ◌<◌, ◌≤◌, ◌==◌, true, false, IsTrue, List, [], ◌∷◌, ◌++◌, length, Option, Some, None, MatchOption}
+use Rattle.std.specs.List.{filter, list_any, AllByRecursion}
 use Rattle.mi_base.specs.declared.records.Update.{Update}
 use Rattle.mi_base.specs.declared.records.Update.TheVariants as update
 use Rattle.mi_base.specs.declared.records.LogEvent.{LogEvent}
@@ -9,25 +9,40 @@ use Rattle.mi_base.specs.declared.records.Op.{Op}
 use Rattle.mi_base.specs.declared.records.Op.TheVariants.{Insert, Delete}
 use Rattle.mi_base.specs.declared.records.Reply.{Reply}
 use Rattle.mi_base.specs.declared.records.Reply.TheVariants.{Stored, Removed, Present, Absent, Range, Nearest}
-use Rattle.mi_base.specs.Configuration.{Configuration, metric_space}
+use Rattle.mi_base.specs.Configuration.{Configuration, metric_space, space_of}
 use Rattle.mi_base.specs.History.{Entered, entered, updates_of, events_at, is_live}
+use Rattle.mi_tree.specs.declared.outcomes.Leaf.{Leaf}
+use Rattle.mi_tree.specs.Cells.{grid_of, same_cell}
+use Rattle.mi_tree.specs.Counting.{cat, is_wanted, is_overfull}
 use Rattle.mi_tree.specs.Right.{Right}
 
--- an event that may follow these updates: an insert of a vector that fits, whose identifier isn't live, or a delete
--- of a live one; without pivots no cell is ever split
-abbrev pub MayFollow : Configuration → List Update → LogEvent → Type 0
-MayFollow c history (event.Update session op (update.Insert id vector)) = IsTrue ((metric_space c).fits vector) × (is_live id history ≡ false)
-MayFollow c history (event.Update session op (update.Delete id)) = is_live id history ≡ true
-MayFollow c history (event.Split prefix) = ⊥
+-- the leaves after a log, under these settings
+abbrev pub cells_of : Configuration → List LogEvent → List Leaf
+cells_of c log = cat (grid_of (space_of c) c.levels) log
 
--- each event may follow those before it
+-- an event that may follow a log: an insert of a vector that fits, whose identifier isn't live, a delete of a live one,
+-- or a split of a leaf that is to be split
+abbrev pub MayFollow : Configuration → List LogEvent → LogEvent → Type 0
+MayFollow c log (event.Update session op (update.Insert id vector)) = IsTrue ((metric_space c).fits vector) × (is_live id (updates_of log) ≡ false)
+MayFollow c log (event.Update session op (update.Delete id)) = is_live id (updates_of log) ≡ true
+MayFollow c log (event.Split prefix) = IsTrue (list_any (λ leaf. same_cell prefix leaf.prefix && is_wanted c.levels c.cell leaf) (cells_of c log))
+
+-- no leaf that may be split holds more than four times the cell size
+abbrev pub IsUncrowded : Configuration → List LogEvent → Type 0
+IsUncrowded c log = list_any (is_overfull c.levels c.cell) (cells_of c log) ≡ false
+
+-- each event may follow those before it, and leaves no leaf too full
 abbrev pub EachMayFollow : Configuration → List LogEvent → List LogEvent → Type 0
 EachMayFollow c earlier [] = Unit {0}
-EachMayFollow c earlier (e ∷ es) = MayFollow c (updates_of earlier) e × EachMayFollow c (earlier ++ e ∷ []) es
+EachMayFollow c earlier (e ∷ es) = MayFollow c earlier e × (IsUncrowded c (earlier ++ e ∷ []) × EachMayFollow c (earlier ++ e ∷ []) es)
 
 pub record LegalLog (c : Configuration) (log : List LogEvent) : Type 0 where
   pub few : length (updates_of log) ≤ c.updates
   pub each : EachMayFollow c [] log
+
+-- no leaf is to be split
+abbrev pub Settled : Configuration → List LogEvent → Type 0
+Settled c log = list_any (is_wanted c.levels c.cell) (cells_of c log) ≡ false
 
 -- each operation has one reply, and it is right; op is the number of the first
 abbrev pub EachRight : Configuration → List LogEvent → ℕ → ℕ → List Op → List Reply → Type 0

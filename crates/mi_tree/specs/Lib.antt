@@ -6,3 +6,4 @@ pub mod InTurn
 pub mod Legal
 pub mod Order
 pub mod Right
+pub mod Passing

@@ -9,9 +9,9 @@ use Rattle.mi_base.specs.declared.records.Reply.{Reply}
 use Rattle.mi_base.specs.declared.records.Reply.TheVariants as reply
 use Rattle.mi_base.specs.declared.records.Position.{Position}
 use Rattle.mi_base.specs.declared.records.Row.{Row}
-use Rattle.mi_base.specs.Configuration.{Configuration, metric_space}
+use Rattle.mi_base.specs.Configuration.{Configuration, metric_space, space_of}
 use Rattle.mi_base.specs.History.{Entered, entered, updates_of, at_position, IsPosition, is_live, range_scan}
-use Rattle.mi_tree.specs.Catalog.{opened, candidates}
+use Rattle.mi_tree.specs.Passing.{opened, candidates}
 
 -- update number n of the log is this one
 pub record IsUpdateNumber (log : List LogEvent) (n : ℕ) (e : Entered) : Type 0 where
@@ -30,8 +30,8 @@ history_at log p = updates_of (at_position log p)
 pub record IsRange (c : Configuration) (log : List LogEvent) (radius : ℕ) (query : List ℤ) (p : Position) (rows : List Row) (cells distances : ℕ) : Type 0 where
   pub position : IsPosition log p
   pub rows_are : rows ≡ range_scan (metric_space c) (history_at log p) query radius
-  pub cells_are : cells ≡ opened (at_position log p)
-  pub distances_are : distances ≡ length c.pivots + length (candidates (at_position log p))
+  pub cells_are : cells ≡ opened (space_of c) c.levels (at_position log p) query radius
+  pub distances_are : distances ≡ length c.pivots + length (candidates (space_of c) c.levels (at_position log p) query radius)
 
 -- The reply to operation number op of the session. A pair that isn't listed is not right.
 abbrev pub Right : Configuration → List LogEvent → ℕ → ℕ → Op → Reply → Type 0

@@ -52,11 +52,11 @@ impl Catalog {
     }
 
     /// The leaf whose prefix begins the permutation.
-    pub fn locate(&self, perm: &Perm) -> &Leaf
+    pub fn locate(&self, perm: &Perm) -> Leaf
         requires { length perm.now ≡ self.now.pivots }
-        ensures { beginning perm.now self.now.leaves ≡ result.now ∷ [] }
+        ensures { beginning perm.now self.now.leaves ≡ result ∷ [] }
     {
-        &self.leaves[self.place_of(perm)]
+        counts::copy_of(&self.leaves[self.place_of(perm)])
     }
 
     /// One more object with this permutation and key distance.

@@ -1,12 +1,13 @@
 //! What is true of cells, counts and hulls at every log. The functions do nothing.
-ghost use Rattle.std.specs.Prelude.{◌≡◌, ◌==◌, ◌≤◌, ◌<◌, All, ◌++◌, [], ◌∷◌, ℕ, ℤ, List, length, map, flat_map, not, IsTrue, true};
+ghost use Rattle.std.specs.Prelude.{◌*◌, ◌≡◌, ◌==◌, ◌≤◌, ◌<◌, All, ◌++◌, [], ◌∷◌, ℕ, ℤ, List, length, map, flat_map, not, IsTrue, true};
 ghost use Rattle.std.specs.List.{filter, list_all};
 ghost use Rattle.mi_base.specs.declared.records.LogEvent.{LogEvent};
 ghost use Rattle.mi_base.specs.declared.records.LogEvent.TheVariants.{Update as Made, Split};
 ghost use Rattle.mi_base.specs.declared.records.Update.TheVariants.{Insert, Delete};
-ghost use Rattle.mi_base.specs.Configuration.{IsDepth};
-ghost use Rattle.mi_base.specs.History.{Object, live, updates_of};
+ghost use Rattle.mi_base.specs.Configuration.{Configuration, IsDepth, IsWithinLimits, space_of};
+ghost use Rattle.mi_base.specs.History.{Object, TheOne, is_live, live, splits_of, updates_of};
 ghost use Rattle.mi_base.specs.Permutations.{is_permutation, begins};
+ghost use Rattle.mi_base.specs.Prefixes.{all_below};
 ghost use Rattle.mi_base.specs.Sorting.{SameElements};
 ghost use Rattle.mi_base.specs.Space.{MetricSpace, Space};
 ghost use Rattle.mi_tree.specs.declared.counts.Placed.{Placed};
@@ -14,6 +15,7 @@ ghost use Rattle.mi_tree.specs.Catalog.{catalog};
 ghost use Rattle.mi_tree.specs.Order.{in_order};
 ghost use Rattle.mi_tree.specs.Cells.{Grid, IsGrid, grid_of, first_leaves, leaves, is_leaf, leaf_of, AllMaySplit};
 ghost use Rattle.mi_tree.specs.Counting.{has_leaf, belongs, held, leaf_with, in_hull, cat, placed, added, removed, leaf_among, parted};
+ghost use Rattle.mi_tree.specs.Legal.{LegalLog};
 
 /// A space within the limits places its vectors as a grid does.
 pub fn spaces_are_grids()
@@ -69,6 +71,26 @@ pub fn cat_counts()
     ensures within { (g : Grid) (log : List LogEvent) → All (λ l. l.count ≤ length (live (updates_of log))) (cat g log) }
     ensures some { (g : Grid) (log : List LogEvent) (o : Object) (rest : List Object) → SameElements (live (updates_of log)) (o ∷ rest)
         → All (λ l. begins l.prefix (g.perm o.vector) ≡ true → 0 < l.count) (cat g log) }
+{}
+
+/// The prefix of a leaf has at most as many pivots as a prefix may have, each the number of a pivot.
+pub fn leaves_are_of_the_pivots()
+    ensures { (g : Grid) → IsGrid g → (log : List LogEvent) → AllMaySplit g log → All (λ p. (length p ≤ g.levels) × (all_below g.pivots p ≡ true)) (leaves g log) }
+{}
+
+/// A legal log splits no leaf of greatest depth, so that the other laws hold of it.
+pub fn legal_logs_may_split()
+    ensures { (c : Configuration) (log : List LogEvent) → LegalLog c log → AllMaySplit (grid_of (space_of c) c.levels) log }
+{}
+
+/// A legal log has at most as many splits as it may have updates, times the greatest depth: each split takes an object one pivot deeper.
+pub fn legal_logs_split_few()
+    ensures { (c : Configuration) (log : List LogEvent) → IsWithinLimits c → LegalLog c log → splits_of log ≤ c.updates * c.levels }
+{}
+
+/// After a legal log each live identifier has one object.
+pub fn live_objects_stand_once()
+    ensures { (c : Configuration) (log : List LogEvent) → LegalLog c log → (id : ℕ) → is_live id (updates_of log) ≡ true → TheOne id (live (updates_of log)) }
 {}
 
 /// Without pivots the leaves are the one cell.
