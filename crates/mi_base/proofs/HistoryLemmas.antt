@@ -1,7 +1,7 @@
 -- Rows in their order, and the same answers from the same objects in any order.
-use Rattle.std.proofs.Common.{◌≡◌, ℕ, ◌+◌, ◌<◌, ◌≤◌, List, [], ◌∷◌, ◌++◌, map, length, Bool, true, false, cond, not, ◌||◌, ◌&&◌, nat_lt, refl, sym, ap, ◌∙◌, subst, arith, length-append}
-use Rattle.std.specs.Prelude.{ℤ, ◌==◌}
-use Rattle.std.specs.List.{sum_by, filter, fold, list_any, list_all, filter_map}
+use Rattle.std.proofs.Common.{◌≡◌, ℕ, ◌+◌, List, [], ◌∷◌, ◌++◌, map, length, Bool, true, false, cond, not, ◌||◌, ◌&&◌, nat_lt, refl, sym, ap, ◌∙◌, arith, length-append}
+use Rattle.std.specs.Prelude.{ℤ}
+use Rattle.std.specs.List.{sum_by, fold, list_any, list_all}
 use Rattle.std.specs.Ordering.{nat_cmp}
 use Rattle.std.specs.Cmp.{IsTotalOrder, on_total, then_total, nat_cmp_total}
 use Rattle.std.proofs.lemmas.Map.Lookups.{CmpEqualImpliesEq, exact_pairs, exact_unsigned}
@@ -17,7 +17,7 @@ use Rattle.mi_base.specs.declared.records.LogEvent.TheVariants.{Update as Made}
 use Rattle.mi_base.specs.declared.records.Row.{Row}
 use Rattle.mi_base.specs.Space.{MetricSpace}
 use Rattle.mi_base.specs.Sorting.{sorted, SameElements}
-use Rattle.mi_base.specs.History.{Object, live, live_after, row_cmp, row_of, hits, range_scan, Entered, entered_in, entered, updates_of}
+use Rattle.mi_base.specs.History.{Object, live, live_after, row_cmp, row_of, hits, range_scan, entered_in, entered, updates_of}
 use Rattle.mi_base.proofs.SortingLemmas.{same_map, same_filter, same_permutation, sorted_of_same, sort_is}
 
 pub row_total : IsTotalOrder row_cmp

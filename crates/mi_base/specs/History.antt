@@ -1,5 +1,5 @@
 -- The history, what is live after it, the log, and the answers by scan.
-use Rattle.std.specs.Prelude.{◌≡◌, ◌<◌, ◌≤◌, IsTrue, false, length, ℕ, ℤ, ◌+◌, ◌-◌, ◌==◌, List, [], ◌∷◌, ◌++◌, Bool, not, nat_le, map, take}
+use Rattle.std.specs.Prelude.{◌≡◌, ◌≤◌, false, length, ℕ, ℤ, ◌+◌, ◌-◌, ◌==◌, List, [], ◌∷◌, Bool, not, nat_le, map, take}
 use Rattle.std.specs.declared.cmp.Ordering.{Ordering}
 use Rattle.std.specs.List.{AllByRecursion, filter, fold, list_any, filter_map}
 use Rattle.std.specs.Prelude.{Option, Some, None}

@@ -1,5 +1,5 @@
 -- What may stand in a script.
-use Rattle.std.specs.Prelude.{ℕ, ℤ, ◌<◌, ◌≤◌, ◌^◌, List, length, IsTrue}
+use Rattle.std.specs.Prelude.{◌<◌, ◌≤◌, ◌^◌, List, length, IsTrue}
 use Rattle.std.specs.List.{AllByRecursion}
 use Rattle.mi_base.specs.declared.records.Op.{Op}
 use Rattle.mi_base.specs.declared.records.Op.TheVariants.{Insert, Delete, Range, Nearest}

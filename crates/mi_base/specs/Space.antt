@@ -1,5 +1,5 @@
 -- Metrics and spaces.
-use Rattle.std.specs.Prelude.{◌≡◌, ℕ, ℤ, pos, negsuc, ◌+◌, ◌<◌, ◌≤◌, ◌-ℤ◌, ◌==◌, ◌&&◌, List, [], ◌∷◌, length, Bool, true, false, IsTrue, cond, max, nat_lt, unsigned_abs, slice_index, slice_index_or}
+use Rattle.std.specs.Prelude.{◌≡◌, ℕ, ℤ, pos, ◌+◌, ◌≤◌, ◌-ℤ◌, ◌==◌, ◌&&◌, List, [], ◌∷◌, length, Bool, false, IsTrue, cond, max, nat_lt, unsigned_abs, slice_index, slice_index_or}
 use Rattle.mi_base.specs.declared.settings.MetricKind.{MetricKind}
 use Rattle.mi_base.specs.declared.settings.MetricKind.TheVariants.{L1, Max, Hamming, Table}
 use Rattle.mi_base.specs.Vectors.{all_coordinates}

@@ -1,5 +1,5 @@
 -- What a vector is.
-use Rattle.std.specs.Prelude.{◌≡◌, ℕ, ℤ, ◌<◌, ◌≤◌, List, length, Bool, false, IsTrue, Some, nat_le, unsigned_abs, slice_get, take, ◌⊎◌}
+use Rattle.std.specs.Prelude.{◌≡◌, ℤ, ◌<◌, ◌≤◌, List, length, Bool, false, IsTrue, Some, nat_le, unsigned_abs, slice_get, take, ◌⊎◌}
 use Rattle.std.specs.List.{list_all}
 use Rattle.mi_base.specs.declared.refusals.VectorRefusal.{VectorRefusal}
 use Rattle.mi_base.specs.declared.refusals.VectorRefusal.TheVariants.{Length, Coordinate}

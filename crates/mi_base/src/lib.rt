@@ -1,6 +1,7 @@
 //! The values of the index: identifiers, vectors, prefixes, updates, replies and settings.
 #![tactic(auto)]
 
+mod copies;
 mod counting;
 mod ids;
 mod lists;
@@ -12,6 +13,7 @@ mod settings;
 mod vectors;
 
 use arrayvec::ArrayVec;
+pub use copies::copy_rows;
 pub use counting::Steps;
 pub use ids::Id;
 pub use lists::{Sequence, sort_rows};

@@ -97,4 +97,15 @@ impl Prefix {
     {
         self.pivots.as_slice()
     }
+
+    /// The same prefix again. It takes no memory.
+    pub fn copy(&self) -> Prefix
+        ensures { result ≡ self.now }
+    {
+        let mut pivots = ArrayVec::new();
+        for pivot in self.pivots.as_slice() {
+            pivots.push(*pivot);
+        }
+        Prefix { pivots }
+    }
 }

@@ -4,9 +4,8 @@ ghost use Rattle.mi_base.specs.Configuration.{metric_space};
 ghost use Rattle.mi_table.specs.Any.{any_is_metric, any_space};
 ghost use Rattle.mi_table.specs.Faults.{HasNoMetric, first_fault};
 
-use crate::copies::copy_rows;
 use crate::{TableFault, TableMetric};
-use mi_base::{MetricKind, Settings, Steps, Vector};
+use mi_base::{MetricKind, Settings, Steps, Vector, copy_rows};
 use mi_metric::{Hamming, L1, Max, Metric};
 use std::alloc::Global;
 use std::sync::ledger::Ledger;

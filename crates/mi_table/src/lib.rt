@@ -3,7 +3,6 @@
 
 mod any;
 mod checks;
-mod copies;
 mod faults;
 mod tables;
 

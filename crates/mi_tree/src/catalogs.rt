@@ -56,7 +56,7 @@ impl Catalog {
         requires { length perm.now ≡ self.now.pivots }
         ensures { beginning perm.now self.now.leaves ≡ result ∷ [] }
     {
-        counts::copy_of(&self.leaves[self.place_of(perm)])
+        self.leaves[self.place_of(perm)].copy()
     }
 
     /// One more object with this permutation and key distance.
@@ -123,7 +123,7 @@ impl Catalog {
     {
         let mut leaves = Vec::with_capacity(alloc, self.leaves.len())?;
         for leaf in &self.leaves {
-            leaves.push(counts::copy_of(leaf))?;
+            leaves.push(leaf.copy())?;
         }
         Ok(Catalog {
             pivots: self.pivots,
@@ -185,7 +185,7 @@ impl Catalog {
             if cells::is_same(prefix, &leaf.prefix) {
                 push_children(&mut leaves, self.pivots, prefix, objects)?;
             } else {
-                leaves.push(counts::copy_of(leaf))?;
+                leaves.push(leaf.copy())?;
             }
         }
         Ok(leaves)

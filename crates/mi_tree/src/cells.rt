@@ -15,12 +15,6 @@ fn prefix_of(pivots: &[u8]) -> Prefix
     Prefix::new(pivots).unwrap()
 }
 
-pub fn copy_of(prefix: &Prefix) -> Prefix
-    ensures { result ≡ prefix.now }
-{
-    prefix_of(prefix.as_slice())
-}
-
 /// The prefix with one pivot more.
 pub fn child_of(prefix: &Prefix, pivot: u8) -> Prefix
     requires short { length prefix.now < 6 }
@@ -36,7 +30,7 @@ pub fn child_of(prefix: &Prefix, pivot: u8) -> Prefix
     prefix_of(pivots.as_slice())
 }
 
-/// The two prefixes are one.
+/// The two prefixes are one: they name the same cell.
 pub fn is_same(one: &Prefix, other: &Prefix) -> bool
     ensures { result ≡ same_cell one.now other.now }
 {

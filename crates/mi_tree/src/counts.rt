@@ -2,7 +2,7 @@
 ghost use Rattle.std.specs.Prelude.{◌≡◌, ◌<◌, ◌≤◌, ◌+◌, ◌-◌, length};
 ghost use Rattle.mi_tree.specs.Counting.{widen, leaf_among};
 
-use crate::{Leaf, cells};
+use crate::Leaf;
 use mi_base::{Perm, Prefix};
 
 /// An object as a catalog is told of it: its permutation, and its distance to the first pivot of that or 0 without pivots.
@@ -37,16 +37,6 @@ pub fn take(leaf: &mut Leaf)
     ensures { leaf.new ≡ record { prefix = leaf.old.prefix; count = leaf.old.count - 1; hull = leaf.old.hull } }
 {
     leaf.count -= 1;
-}
-
-pub fn copy_of(leaf: &Leaf) -> Leaf
-    ensures { result ≡ leaf.now }
-{
-    Leaf {
-        prefix: cells::copy_of(&leaf.prefix),
-        count: leaf.count,
-        hull: leaf.hull,
-    }
 }
 
 /// The leaf of a prefix with those of the objects that belong to it.

@@ -6,11 +6,13 @@ mod catalogs;
 mod cells;
 mod counts;
 mod laws;
+mod leaves;
 mod outcomes;
 mod refusals;
 
 pub use answers::{AllotRefusal, CommitRefusal, LeafClaim, Look, ReserveRefusal, Work};
 pub use catalogs::Catalog;
+pub use cells::is_same;
 pub use counts::Placed;
 pub use laws::{
     cat_begins, cat_counts, cat_deletes, cat_has_leaves, cat_inserts, cat_splits,

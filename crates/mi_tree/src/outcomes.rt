@@ -1,8 +1,9 @@
-//! What a run of scripts leaves.
+//! Cells, and what a run of scripts leaves.
+ghost use Rattle.std.specs.Prelude.{◌≡◌, ◌≤◌};
 
 use mi_base::{Log, Prefix, Sequence, Transcript};
 
-/// A cell at the end: how many live objects belong to it, and the least interval of the key
+/// A cell that isn't split: how many live objects belong to it, and the least interval of the key
 /// distances of all objects that were put into it.
 #[derive(Drop)]
 pub struct Leaf {

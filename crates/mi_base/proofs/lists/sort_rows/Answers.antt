@@ -1,4 +1,4 @@
-use Rattle.std.proofs.Common.{◌≡◌, ap, ◌∙◌}
+use Rattle.std.proofs.Common.{ap, ◌∙◌}
 use Rattle.mi_base.specs.Sorting.{sorted}
 use Rattle.mi_base.specs.History.{row_cmp}
 use Rattle.mi_base.proofs.HistoryLemmas.{sorted_rows}

@@ -1,8 +1,8 @@
-use Rattle.std.proofs.Common.{◌≡◌, ◌<◌, [], ◌∷◌, ◌++◌, not, length, take, get_or, Bool, true, false, ◌&&◌, nat_lt, nat_le, refl, sym, ap, ◌∙◌, arith, rules}
+use Rattle.std.proofs.Common.{◌≡◌, [], ◌∷◌, ◌++◌, not, length, take, get_or, true, false, ◌&&◌, nat_lt, nat_le, sym, ap, ◌∙◌, arith}
 use Rattle.std.proofs.lemmas.Bool.Decides.{nat_tests}
 use Rattle.std.proofs.lemmas.List.Folds.{list_all_at, list_all_more}
 use Rattle.std.proofs.lemmas.List.{take_more}
-use Rattle.mi_base.specs.Prefixes.{has, is_prefix, all_below, are_different}
+use Rattle.mi_base.specs.Prefixes.{has, all_below, are_different}
 use Rattle.mi_base.proofs.PrefixLemmas.{are_different-append, are_different-repeat, and-false}
 use Rattle.mi_base.proofs.prefixes.Prefix.new.Goals as goal
 use Rattle.mi_base.proofs.prefixes.Prefix.new.Goals.{then-item-gt31-via-then-item-gt31, then-item-gt31-via-else-item-gt31+then-contains}

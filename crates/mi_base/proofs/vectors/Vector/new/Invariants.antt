@@ -1,4 +1,4 @@
-use Rattle.std.proofs.Common.{◌≡◌, ◌≤◌, length, take, IsTrue}
+use Rattle.std.proofs.Common.{◌≡◌, take, IsTrue}
 use Rattle.mi_base.specs.Vectors.{all_coordinates}
 use Rattle.mi_base.proofs.vectors.Vector.new.Given as goal
 

@@ -10,4 +10,4 @@ returns c =
     let x = c.index.result.now in
     let at = subst (λ (v : Cells). x ≡ get_or v.leaves c.place_of.result x) c.self.view_is c.index.ensures in
     located perm c.args.self.now.leaves c.place_of.result c.index.result.now c.place_of.ensures.within at c.place_of.ensures.begins c.place_of.ensures.one
-    ∙ ap (λ (l : Leaf). l ∷ []) (sym c.copy_of.ensures)
+    ∙ ap (λ (l : Leaf). l ∷ []) (sym c.copy.ensures)

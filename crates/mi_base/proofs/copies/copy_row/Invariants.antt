@@ -1,5 +1,5 @@
 use Rattle.std.proofs.Common.{◌≡◌, take}
-use Rattle.mi_table.proofs.copies.copy_row.Given as goal
+use Rattle.mi_base.proofs.copies.copy_row.Given as goal
 
 abbrev pub invariant-loop-value : goal.invariant-loop-value
 invariant-loop-value l = l.copy ≡ take l.value-index l.value-items

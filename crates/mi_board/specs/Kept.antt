@@ -1,0 +1,35 @@
+-- What holds of every board.
+use Rattle.std.specs.Prelude.{count_by, ◌≡◌, ◌≤◌, ◌+◌, ℕ, List, [], ◌∷◌, length, true, false, IsTrue, Some, Option, None}
+use Rattle.mi_base.specs.declared.records.LogEvent.{LogEvent}
+use Rattle.mi_base.specs.Configuration.{Configuration, IsWithinLimits}
+use Rattle.mi_base.specs.History.{updates_of}
+use Rattle.mi_board.specs.declared.actors.ActorState.{ActorState}
+use Rattle.mi_board.specs.Actors.{is_claimed}
+use Rattle.mi_tree.specs.declared.outcomes.Leaf.{Leaf}
+use Rattle.mi_tree.specs.Catalogs.{Cells}
+use Rattle.mi_tree.specs.Counting.{has_leaf}
+use Rattle.mi_tree.specs.Legal.{LegalLog, cells_of}
+
+-- a claim is that of a leaf, and no later actor has the same
+abbrev pub ClaimStands : List Leaf → List ActorState → Option (List ℕ) → Type 0
+ClaimStands leaves later None = Unit {0}
+ClaimStands leaves later (Some p) = (has_leaf p leaves ≡ true) × (is_claimed p later ≡ false)
+
+-- each claim is that of a leaf, and no two actors claim one
+abbrev pub ClaimsStand : List Leaf → List ActorState → Type 0
+ClaimsStand leaves [] = Unit {0}
+ClaimsStand leaves (a ∷ actors) = ClaimStands leaves actors a.claim × ClaimsStand leaves actors
+
+-- the cells of a log under settings
+abbrev pub cells_in : Configuration → List LogEvent → Cells
+cells_in c log = record { pivots = length c.pivots; levels = c.levels; leaves = cells_of c log }
+
+-- the log is legal, the catalog has its cells, the count is that of its updates, the claims stand, and there is room for what was reserved
+pub record IsBoard (c : Configuration) (log : List LogEvent) (catalog : Cells) (updates : ℕ) (actors : List ActorState) (room : ℕ) : Type 0 where
+  pub limits : IsWithinLimits c
+  pub legal : LegalLog c log
+  pub cells : catalog ≡ cells_in c log
+  pub counted : updates ≡ length (updates_of log)
+  pub few : length actors ≤ 4294967295
+  pub claims : ClaimsStand (cells_of c log) actors
+  pub space : length log + count_by (λ a. a.reserved) actors ≤ room
