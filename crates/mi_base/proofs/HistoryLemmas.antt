@@ -1,5 +1,5 @@
 -- Rows in their order, and the same answers from the same objects in any order.
-use Rattle.std.proofs.Common.{◌≡◌, ℕ, ◌+◌, List, [], ◌∷◌, ◌++◌, map, length, Bool, true, false, cond, not, ◌||◌, ◌&&◌, nat_lt, refl, sym, ap, ◌∙◌, arith, length-append}
+use Rattle.std.proofs.Common.{◌≤◌, ◌≡◌, ℕ, ◌+◌, List, [], ◌∷◌, ◌++◌, map, length, Bool, true, false, cond, not, ◌||◌, ◌&&◌, nat_lt, refl, sym, ap, ◌∙◌, arith, length-append}
 use Rattle.std.specs.Prelude.{ℤ}
 use Rattle.std.specs.List.{sum_by, fold, list_any, list_all}
 use Rattle.std.specs.Ordering.{nat_cmp}
@@ -13,7 +13,7 @@ use Rattle.std.proofs.lemmas.List.{map-append}
 use Rattle.std.specs.List.Sorted.{IsPermutation, IsSorted}
 use Rattle.mi_base.specs.declared.records.Update.{Update}
 use Rattle.mi_base.specs.declared.records.LogEvent.{LogEvent}
-use Rattle.mi_base.specs.declared.records.LogEvent.TheVariants.{Update as Made}
+use Rattle.mi_base.specs.declared.records.LogEvent.TheVariants.{Update as Made, Split}
 use Rattle.mi_base.specs.declared.records.Row.{Row}
 use Rattle.mi_base.specs.Space.{MetricSpace}
 use Rattle.mi_base.specs.Sorting.{sorted, SameElements}
@@ -78,3 +78,9 @@ live-append history more = fold-append live_after [] history more
 -- one more update in a log
 pub length-entered : (log : List LogEvent) (session op : ℕ) (u : Update) → length (updates_of (log ++ Made session op u ∷ [])) ≡ length (updates_of log) + 1
 length-entered log session op u = ap length (updates_of-append log (Made session op u ∷ [])) ∙ length-append (updates_of log) (u ∷ [])
+
+-- no more updates than events
+pub few_updates : (log : List LogEvent) → length (updates_of log) ≤ length log
+few_updates [] = omega arith
+few_updates (Made session op u ∷ log) = omega (arith, few_updates log)
+few_updates (Split p ∷ log) = omega (arith, few_updates log)

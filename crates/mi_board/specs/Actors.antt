@@ -1,5 +1,5 @@
 -- What actors claim.
-use Rattle.std.specs.Prelude.{ℕ, zero, suc, List, [], ◌∷◌, Bool, true, false, Option, Some, None, slice_index_or}
+use Rattle.std.specs.Prelude.{ℕ, zero, suc, List, [], ◌∷◌, Bool, false, Option, Some, None, slice_index_or}
 use Rattle.std.specs.List.{list_any}
 use Rattle.mi_base.specs.Permutations.{begins}
 use Rattle.mi_board.specs.declared.actors.ActorState.{ActorState}

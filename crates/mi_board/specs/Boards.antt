@@ -6,7 +6,7 @@ use Rattle.mi_base.specs.declared.records.LogEvent.TheVariants.{Update as Made, 
 use Rattle.mi_base.specs.declared.records.Position.{Position}
 use Rattle.mi_base.specs.declared.records.Update.{Update}
 use Rattle.mi_base.specs.declared.refusals.NoMemory.{NoMemory}
-use Rattle.mi_base.specs.Configuration.{Configuration, IsWithinLimits, metric_space, space_of}
+use Rattle.mi_base.specs.Configuration.{Configuration, metric_space, space_of}
 use Rattle.mi_base.specs.History.{TheOne, end_of, is_live, live, updates_of}
 use Rattle.mi_base.specs.Permutations.{begins}
 use Rattle.mi_base.specs.Sorting.{SameElements}
@@ -127,9 +127,13 @@ abbrev pub Publishes : BoardState → ℕ → List ℕ → Result Position NoMem
 Publishes old actor prefix (Ok at) new = (at ≡ end_of new.log) × (new ≡ with_split prefix actor old)
 Publishes old actor prefix (Err e) new = new ≡ old
 
--- the first leaf in order that is to be split and that nobody claims
+-- a leaf is to be split, and nobody claims it
+abbrev pub is_free : BoardState → Leaf → Bool
+is_free b leaf = is_wanted b.settings.levels b.settings.cell leaf && not (is_claimed leaf.prefix b.actors)
+
+-- the first such leaf in order
 abbrev pub first_wanted : BoardState → Option Leaf
-first_wanted b = find (λ leaf. is_wanted b.settings.levels b.settings.cell leaf && not (is_claimed leaf.prefix b.actors)) (cells_of b.settings b.log)
+first_wanted b = find (is_free b) (cells_of b.settings b.log)
 
 -- the splitter sweeps the leaf that was split first, else splits the first wanted leaf, which it then claims, else has nothing to do
 abbrev pub GivesWork : BoardState → ℕ → Work → BoardState → Type 0

@@ -1,5 +1,5 @@
 -- What holds of every board.
-use Rattle.std.specs.Prelude.{count_by, ◌≡◌, ◌≤◌, ◌+◌, ℕ, List, [], ◌∷◌, length, true, false, IsTrue, Some, Option, None}
+use Rattle.std.specs.Prelude.{count_by, ◌≡◌, ◌≤◌, ◌+◌, ℕ, List, [], ◌∷◌, length, true, false, Some, Option, None}
 use Rattle.mi_base.specs.declared.records.LogEvent.{LogEvent}
 use Rattle.mi_base.specs.Configuration.{Configuration, IsWithinLimits}
 use Rattle.mi_base.specs.History.{updates_of}

@@ -4,8 +4,9 @@ ghost use Rattle.mi_base.specs.declared.records.Update.TheVariants.{Insert, Dele
 ghost use Rattle.mi_base.specs.Configuration.{IsWithinLimits};
 ghost use Rattle.mi_base.specs.History.{end_of};
 ghost use Rattle.mi_board.specs.Actors.{actor_at, idle, is_claim, is_claimed, released};
-ghost use Rattle.mi_board.specs.Boards.{ClaimsLeaf, Commits, GivesWork, MayCommit, MayDelete, MayInsert, MayPublish, Publishes, Reserves, crowded_at, first_wanted, leaf_claimed, looked, opened_board, with_actor};
+ghost use Rattle.mi_board.specs.Boards.{ClaimsLeaf, Commits, GivesWork, MayCommit, MayDelete, MayInsert, MayPublish, Publishes, Reserves, crowded_at, first_wanted, is_free, leaf_claimed, looked, opened_board, with_actor};
 ghost use Rattle.mi_board.specs.Kept.{cells_in};
+ghost use Rattle.mi_tree.specs.Counting.{is_crowded, is_wanted};
 ghost use Rattle.mi_tree.specs.Legal.{LegalLog};
 
 use crate::ActorState;
@@ -104,15 +105,14 @@ impl Board {
         requires { actor < length self.old.actors }
         ensures { Reserves self.old actor result self.new }
     {
-        if self.updates >= self.settings.updates {
-            return Err(ReserveRefusal::Full {
-                limit: self.settings.updates,
-            });
+        let limit = limit_of(&self.settings);
+        if self.updates >= limit {
+            return Err(ReserveRefusal::Full { limit });
         }
         let room = self.reservations() + 1;
-        if self.events.reserve(room).is_err() {
+        let Ok(()) = self.events.reserve(room) else {
             return Err(ReserveRefusal::Memory);
-        }
+        };
         self.actors[actor as usize].reserved = true;
         Ok(self.look())
     }
@@ -155,13 +155,12 @@ impl Board {
         requires object { MayInsert self.old id vector.now perm.now distance }
         ensures { Commits self.old actor op (Insert id vector.now) (crowded_at self.old perm.now) result self.new }
     {
-        if self.updates >= self.settings.updates {
-            return Err(CommitRefusal::Full {
-                limit: self.settings.updates,
-            });
+        let limit = limit_of(&self.settings);
+        if self.updates >= limit {
+            return Err(CommitRefusal::Full { limit });
         }
         let leaf = self.catalog.locate(perm);
-        if leaf.is_crowded(self.settings.levels, self.settings.cell) {
+        if is_crowded(&self.settings, &leaf) {
             return Err(CommitRefusal::Crowded);
         }
         self.catalog.add(perm, distance);
@@ -193,10 +192,9 @@ impl Board {
         requires object { MayDelete self.old id perm.now }
         ensures { Commits self.old actor op (Delete id) false result self.new }
     {
-        if self.updates >= self.settings.updates {
-            return Err(CommitRefusal::Full {
-                limit: self.settings.updates,
-            });
+        let limit = limit_of(&self.settings);
+        if self.updates >= limit {
+            return Err(CommitRefusal::Full { limit });
         }
         self.catalog.remove(perm);
         self.events
@@ -228,10 +226,10 @@ impl Board {
         let room = self.reservations() + 1;
         self.events.reserve(room)?;
         self.retired.push_back(prefix.copy())?;
-        if self.catalog.split(alloc, &prefix, objects).is_err() {
+        let Ok(()) = self.catalog.split(alloc, &prefix, objects) else {
             let _ = self.retired.pop_back();
             return Err(NoMemory);
-        }
+        };
         self.events.push(LogEvent::Split { prefix }).unwrap();
         self.actors[actor as usize].claim = None;
         Ok(self.end())
@@ -283,13 +281,18 @@ impl Board {
     {
         for place in 0..self.catalog.len() {
             let leaf = self.catalog.leaf(place);
-            if leaf.is_wanted(self.settings.levels, self.settings.cell)
-                && self.claimant(&leaf.prefix).is_none()
-            {
+            if self.is_free(leaf) {
                 return Some(leaf.copy());
             }
         }
         None
+    }
+
+    /// The leaf is to be split, and nobody claims it.
+    fn is_free(&self, leaf: &Leaf) -> bool
+        ensures { result ≡ is_free self.now leaf.now }
+    {
+        is_wanted(&self.settings, leaf) && self.claimant(&leaf.prefix).is_none()
     }
 
     /// How many actors have reserved an update that they haven't committed.
@@ -308,4 +311,25 @@ impl Board {
             splits: self.events.len() as u32 - self.updates,
         }
     }
+}
+
+/// How many updates the log may have.
+fn limit_of(settings: &Settings) -> u32
+    ensures { result ≡ settings.now.updates }
+{
+    settings.updates
+}
+
+/// An insert may not enter the leaf before it is split.
+fn is_crowded(settings: &Settings, leaf: &Leaf) -> bool
+    ensures { result ≡ is_crowded settings.now.levels settings.now.cell leaf.now }
+{
+    leaf.is_crowded(settings.levels, settings.cell)
+}
+
+/// The leaf is to be split.
+fn is_wanted(settings: &Settings, leaf: &Leaf) -> bool
+    ensures { result ≡ is_wanted settings.now.levels settings.now.cell leaf.now }
+{
+    leaf.is_wanted(settings.levels, settings.cell)
 }

@@ -1,8 +1,8 @@
 -- The prefixes of leaves are within the greatest depth, of the pivots that there are.
-use Rattle.std.proofs.Common.{◌≡◌, ℕ, ◌+◌, ◌<◌, ◌≤◌, List, [], ◌∷◌, ◌++◌, map, length, Bool, true, false, cond, not, ◌&&◌, nat_eq, nat_lt, refl, sym, ap, ◌∙◌, subst, arith, length-append, min}
+use Rattle.std.proofs.Common.{◌≡◌, ℕ, ◌<◌, ◌≤◌, List, [], ◌∷◌, ◌++◌, length, Bool, true, false, cond, not, ◌&&◌, nat_eq, nat_lt, refl, sym, ◌∙◌, subst, arith, length-append, min}
 use Rattle.std.specs.Prelude.{All}
 use Rattle.std.specs.List.{filter, fold, flat_map, range_with_len, AllByRecursion}
-use Rattle.std.proofs.lemmas.Bool.{and_from, eqb-true}
+use Rattle.std.proofs.lemmas.Bool.{and_from}
 use Rattle.std.proofs.lemmas.Bool.Decides.{nat_tests}
 use Rattle.std.proofs.lemmas.List.Elements.{All-from_recursion}
 use Rattle.std.proofs.lemmas.List.Folds.{list_all-append}
@@ -10,7 +10,7 @@ use Rattle.mi_base.specs.declared.records.LogEvent.{LogEvent}
 use Rattle.mi_base.specs.declared.records.LogEvent.TheVariants.{Update as Made, Split}
 use Rattle.mi_base.specs.Prefixes.{has, all_below}
 use Rattle.mi_base.proofs.PivotLemmas.{all_below-range}
-use Rattle.mi_tree.specs.Cells.{Grid, IsGrid, children, same_cell, split_cell, leaves_after, first_leaves, leaves, MaySplit, AllMaySplit}
+use Rattle.mi_tree.specs.Cells.{Grid, IsGrid, children, same_cell, split_cell, leaves_after, first_leaves, leaves, AllMaySplit}
 use Rattle.mi_tree.proofs.ListLemmas.{all_map, all_filter, all_weaker, all_joined, all_from_test}
 use Rattle.mi_tree.proofs.LeafLemmas.{same_cell_is}
 

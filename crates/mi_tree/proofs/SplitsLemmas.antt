@@ -1,10 +1,10 @@
 -- A legal log has few splits: each takes a live object one pivot deeper.
-use Rattle.std.proofs.Common.{◌≡◌, ℕ, ℤ, ◌+◌, ◌-◌, ◌*◌, ◌<◌, ◌≤◌, List, [], ◌∷◌, ◌++◌, length, take, Bool, true, false, cond, not, ◌&&◌, nat_eq, refl, sym, ap, ◌∙◌, subst, arith, append_assoc, append-nil, length-append, min}
+use Rattle.std.proofs.Common.{◌≡◌, ℕ, ◌+◌, ◌*◌, ◌≤◌, List, [], ◌∷◌, ◌++◌, length, take, Bool, true, false, cond, not, ◌&&◌, nat_eq, refl, sym, ap, ◌∙◌, subst, arith, append_assoc, append-nil, length-append, min}
 use Rattle.std.specs.Prelude.{◌==◌}
-use Rattle.std.specs.List.{filter, fold, sum_by, AllByRecursion}
+use Rattle.std.specs.List.{filter, fold, sum_by}
 use Rattle.std.proofs.Math.ListN.{length-take}
 use Rattle.std.proofs.Math.Nat.{mul-le-mul_right}
-use Rattle.std.proofs.lemmas.Bool.{and_parts, false≢true, eq-eqb}
+use Rattle.std.proofs.lemmas.Bool.{eq-eqb}
 use Rattle.std.proofs.lemmas.Grind.{fold-append}
 use Rattle.std.proofs.lemmas.List.Sums.{sum_by-cons, sum_by-le}
 use Rattle.std.proofs.lemmas.List.Elements.{All-from_recursion}
@@ -13,13 +13,13 @@ use Rattle.mi_base.specs.declared.records.Update.TheVariants.{Insert, Delete}
 use Rattle.mi_base.specs.declared.records.LogEvent.{LogEvent}
 use Rattle.mi_base.specs.declared.records.LogEvent.TheVariants.{Update as Made, Split}
 use Rattle.mi_base.specs.Permutations.{begins}
-use Rattle.mi_base.specs.Configuration.{Configuration, IsWithinLimits}
+use Rattle.mi_base.specs.Configuration.{Configuration}
 use Rattle.mi_base.specs.History.{Object, live, live_after, updates_of, splits_of}
 use Rattle.mi_base.proofs.HistoryLemmas.{updates_of-append}
-use Rattle.mi_tree.specs.Cells.{Grid, IsGrid, depth, depth_after, leaf_of, is_leaf, MaySplit, AllMaySplit}
+use Rattle.mi_tree.specs.Cells.{Grid, IsGrid, depth, depth_after, is_leaf, MaySplit, AllMaySplit}
 use Rattle.mi_tree.specs.Counting.{belongs}
 use Rattle.mi_tree.specs.Legal.{MayFollow, EachMayFollow, LegalLog}
-use Rattle.mi_tree.proofs.ListLemmas.{all_any, filter_twice, all_joined}
+use Rattle.mi_tree.proofs.ListLemmas.{all_any, all_joined}
 use Rattle.mi_tree.proofs.LeafLemmas.{leaf_is, step_deep}
 use Rattle.mi_tree.proofs.LegalLemmas.{grid, wanted, may_split, all_may, updates_of_split}
 

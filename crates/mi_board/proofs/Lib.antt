@@ -1,0 +1,5 @@
+pub mod ActorLemmas
+pub mod BoardLemmas
+pub mod CrowdLemmas
+pub mod FoundLemmas
+pub mod StepLemmas
