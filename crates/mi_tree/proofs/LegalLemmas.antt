@@ -1,6 +1,6 @@
 -- What follows of a legal log, and how one goes on.
-use Rattle.std.proofs.Common.{◌≡◌, ℕ, ℤ, ◌+◌, ◌<◌, ◌≤◌, List, [], ◌∷◌, ◌++◌, map, length, Bool, true, false, cond, ◌&&◌, ◌||◌, nat_lt, refl, sym, ap, ◌∙◌, subst, arith, append_assoc, append-nil}
-use Rattle.std.specs.List.{filter, list_any, AllByRecursion}
+use Rattle.std.proofs.Common.{◌≡◌, ℕ, ◌<◌, ◌≤◌, List, [], ◌∷◌, ◌++◌, map, length, Bool, true, false, ◌&&◌, ◌||◌, nat_lt, refl, sym, ap, ◌∙◌, subst, append_assoc, append-nil}
+use Rattle.std.specs.List.{filter, list_any}
 use Rattle.std.proofs.lemmas.Bool.{and_parts, false≢true, ltb-true, or_right}
 use Rattle.mi_base.specs.declared.records.Update.{Update}
 use Rattle.mi_base.specs.declared.records.Update.TheVariants.{Insert, Delete}
@@ -12,7 +12,7 @@ use Rattle.mi_base.proofs.HistoryLemmas.{updates_of-append, live-append}
 use Rattle.mi_base.proofs.LiveLemmas.{once_inserted, once_deleted, the_one}
 use Rattle.mi_tree.specs.declared.outcomes.Leaf.{Leaf}
 use Rattle.mi_tree.specs.Cells.{Grid, grid_of, same_cell, is_leaf, MaySplit, AllMaySplit}
-use Rattle.mi_tree.specs.Counting.{Held, belongs, held, leaf_with, is_splittable, is_wanted}
+use Rattle.mi_tree.specs.Counting.{Held, belongs, held, leaf_with, is_wanted}
 use Rattle.mi_tree.specs.Legal.{MayFollow, IsUncrowded, EachMayFollow, LegalLog}
 use Rattle.mi_tree.proofs.LeafLemmas.{same_cell_is}
 use Rattle.mi_tree.proofs.CatLemmas.{held_live}

@@ -1,10 +1,10 @@
 -- The one cell where there are no pivots: it has the empty prefix, and each object belongs to it.
-use Rattle.std.specs.Prelude.{ℕ, Bool, true, false, List, [], ◌∷◌, length, Option, Some, None, is_some, count_by, if◌then◌else◌}
-use Rattle.std.specs.List.{list_any, filter}
+use Rattle.std.specs.Prelude.{ℕ, Bool, true, false, List, [], ◌∷◌, length, Option, Some, None, if◌then◌else◌}
+use Rattle.std.specs.List.{list_any}
 use Rattle.mi_base.specs.declared.records.Update.{Update}
 use Rattle.mi_base.specs.declared.records.Update.TheVariants.{Insert, Delete}
 use Rattle.mi_base.specs.declared.records.LogEvent.{LogEvent}
-use Rattle.mi_base.specs.History.{Object, live, updates_of}
+use Rattle.mi_base.specs.History.{live, updates_of}
 use Rattle.mi_tree.specs.declared.outcomes.Leaf.{Leaf}
 
 abbrev pub is_insert : Update → Bool
