@@ -36,6 +36,6 @@ at_record_ok number (Ok y) x h = let e : y ≡ x = cc in ap Ok e
 at_record_ok number (Err why) x h = cc
 
 -- what follows from what reading gives holds of what a function returned
-pub gives_law : {X : Type 0} (P : X → Type 0) (result : Result X InputFault) (read : Result X Fault) → Gives (λ x. x) result read → ((x : X) → read ≡ Ok x → P x) → IfOk result P
-gives_law P (Ok x) read gives law = law x gives
-gives_law P (Err e) read gives law = tt
+pub gives_law : {X Y : Type 0} (view : X → Y) (P : X → Type 0) (result : Result X InputFault) (read : Result Y Fault) → Gives view result read → ((x : X) → read ≡ Ok (view x) → P x) → IfOk result P
+gives_law view P (Ok x) read gives law = law x gives
+gives_law view P (Err e) read gives law = tt

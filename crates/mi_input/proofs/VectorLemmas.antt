@@ -6,7 +6,7 @@ use Rattle.mi_base.specs.Vectors.{IsRefused, all_coordinates, is_coordinate}
 use Rattle.mi_base.specs.declared.refusals.VectorRefusal.{VectorRefusal}
 use Rattle.mi_base.specs.declared.refusals.VectorRefusal.TheVariants.{Length, Coordinate}
 use Rattle.mi_input.specs.declared.vectors.Shape.{Shape}
-use Rattle.mi_input.specs.Scripts.{IsShape}
+use Rattle.mi_input.specs.Vectors.{IsShape}
 use Rattle.mi_input.proofs.CaseLemmas.{and_true}
 
 -- from -1,000,000 to 1,000,000
