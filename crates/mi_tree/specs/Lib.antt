@@ -5,4 +5,5 @@ pub mod Counting
 pub mod InTurn
 pub mod Legal
 pub mod Order
+pub mod Passing
 pub mod Right
