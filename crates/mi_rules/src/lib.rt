@@ -3,8 +3,10 @@
 
 mod bounds;
 mod filters;
+mod laws;
 mod spans;
 
 pub use bounds::{bound, passes};
 pub use filters::filter;
+pub use laws::{filter_implies_passing, no_answer_is_dropped, passing_grows};
 pub use spans::span;

@@ -1,0 +1,20 @@
+-- Which objects belong to a query's answer, and where they are kept.
+use Rattle.std.specs.Prelude.{◌≡◌, ◌≤◌, ℕ, ℤ, List, IsTrue, true}
+use Rattle.std.specs.List.{AllByRecursion}
+use Rattle.mi_base.specs.Permutations.{begins, key_distance, permutation_of}
+use Rattle.mi_base.specs.Space.{IsMetric, Space}
+use Rattle.mi_tree.specs.declared.outcomes.Leaf.{Leaf}
+use Rattle.mi_tree.specs.Counting.{in_hull}
+
+-- the object is at most the radius away from the query, by a metric that both and all pivots fit
+pub record IsAnswer (space : Space) (query object : List ℤ) (radius : ℕ) : Type 0 where
+  pub metric : IsMetric space.metric
+  pub pivots_fit : AllByRecursion (λ p. IsTrue (space.metric.fits p)) space.pivots
+  pub query_fits : IsTrue (space.metric.fits query)
+  pub object_fits : IsTrue (space.metric.fits object)
+  pub near : space.metric.d query object ≤ radius
+
+-- an object with these distances to the pivots may be kept in the leaf: its prefix begins their order, and its hull has the first
+pub record MayHold (leaf : Leaf) (dists : List ℕ) : Type 0 where
+  pub begun : begins leaf.prefix (permutation_of dists) ≡ true
+  pub covered : in_hull (key_distance dists) leaf.hull ≡ true
