@@ -24,7 +24,7 @@ use Rattle.mi_tree.specs.Counting.{in_hull}
 use Rattle.mi_tree.specs.Passing.{IsBound, double_pivot, hull_passes, lets_through, none_nearer, passes, range_pivot, rules_pass}
 use Rattle.mi_key.specs.Clusters.{cluster_of}
 use Rattle.mi_key.specs.declared.keys.KeyParts.{KeyParts}
-use Rattle.mi_rules.specs.Answers.{IsAnswer, MayHold}
+use Rattle.mi_rules.specs.Answers.{IsAnswer, MayHold, Measured}
 use Rattle.mi_rules.specs.Spans.{cut, is_in_span}
 
 -- from which radius on a hull is met
@@ -278,3 +278,17 @@ answer_spans space query object r a leaf h empty levels key c d =
     (λ none. ap (map (space.metric.d query)) (empty none))
     (first_bounded 128000000 dists (permutation_of dists) (bounded_at space.metric a.metric object a.object_fits space.pivots a.pivots_fit))
     (c ∙ ap (λ n. cluster_of n levels leaf.prefix) (sym (length-map space.pivots (λ p. space.metric.d query p)))) d
+
+-- what the filter refuses is farther than the radius
+pub refused_far : (m : MetricSpace) → IsMetric m → (query object : List ℤ) (dq dists : List ℕ) (r : ℕ) → IsTrue (m.fits query) → IsTrue (m.fits object) → Measured m query dq object dists
+    → lets_through r dq dists ≡ false → nat_le (m.d query object) r ≡ false
+refused_far m is query object dq dists r fq fo me f =
+    let through : m.d query object ≤ r → lets_through r dq dists ≡ true =
+    λ near. ap (λ xs. lets_through r xs dists) me.of_query ∙ ap (lets_through r (map (m.d query) me.pivots)) me.of_object ∙ near_all m is query object fq fo r near me.pivots me.pivots_fit in
+    let P : Bool → Type 0 = λ b. nat_le (m.d query object) r ≡ b → b ≡ false in
+    let go : (b : Bool) → P b = elim [ true ↦ λ e. absurd (false≢true (sym f ∙ through (leb-true (m.d query object) r e))) | false ↦ λ e. refl ] in
+    go (nat_le (m.d query object) r) refl
+
+-- the two lists of measured distances have one length
+pub measured_lengths : (m : MetricSpace) (query object : List ℤ) (dq dists : List ℕ) → Measured m query dq object dists → length dq ≡ length dists
+measured_lengths m query object dq dists me = ap length me.of_query ∙ same_lengths (record { metric = m; pivots = me.pivots }) query object ∙ ap length (sym me.of_object)
