@@ -197,10 +197,10 @@ rules_let dq dists (p ∷ ps) r hull e f b i =
     (λ l kl. all_range (λ j. has j (take l prefix) || nat_le (d l) (slice_index dq j + 2 * r)) (length dq)
     (λ j kj. unless (has j (take l prefix)) (nat_le (d l) (slice_index dq j + 2 * r))
     (λ out.
-      let no : slice_index dists (slice_index prefix l) ≤ slice_index dists j =
-      no_nearer dists prefix (permutation_of dists) l j (permutation_of-ascends dists) b kl (has_pivot dists j (omega arith)) out in
-      let le : d l ≤ slice_index dq j + 2 * r = omega (arith, (near (slice_index prefix l)).0, (near j).1) in
-      (let t : nat_le (d l) (slice_index dq j + 2 * r) ≡ true = grind (arith, nat_tests) in t)))))
+    let no : slice_index dists (slice_index prefix l) ≤ slice_index dists j =
+    no_nearer dists prefix (permutation_of dists) l j (permutation_of-ascends dists) b kl (has_pivot dists j (omega arith)) out in
+    let le : d l ≤ slice_index dq j + 2 * r = omega (arith, (near (slice_index prefix l)).0, (near j).1) in
+    (let t : nat_le (d l) (slice_index dq j + 2 * r) ≡ true = grind (arith, nat_tests) in t)))))
     (and_both _ _ met_low met_high)
 
 hull_lets : (dq dists prefix : List ℕ) (r : ℕ) (hull : Option (ℕ × ℕ)) → length dq ≡ length dists → lets_through r dq dists ≡ true → begins prefix (permutation_of dists) ≡ true

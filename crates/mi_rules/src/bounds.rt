@@ -27,7 +27,9 @@ pub fn bound(leaf: &Leaf, query: &Dists) -> Option<u32>
         return Some(0);
     };
     let distance = query[usize::from(*first)];
-    let to_hull = low.saturating_sub(distance).max(distance.saturating_sub(high));
+    let to_hull = low
+        .saturating_sub(distance)
+        .max(distance.saturating_sub(high));
     Some(to_hull.max(prefix_bound(prefix, query)))
 }
 

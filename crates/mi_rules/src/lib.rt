@@ -10,3 +10,6 @@ pub use bounds::{bound, passes};
 pub use filters::filter;
 pub use laws::{filter_implies_passing, no_answer_is_dropped, passing_grows};
 pub use spans::span;
+
+#[cfg(test)]
+mod tests;
