@@ -6,3 +6,6 @@ mod work;
 
 pub use laws::taking_goes_on;
 pub use work::RangeWork;
+
+#[cfg(test)]
+mod tests;
