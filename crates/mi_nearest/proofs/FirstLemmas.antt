@@ -100,6 +100,18 @@ first_without k row rows before worst e many last far =
     let size : length (take k all) ≡ k = omega (arith, length-take k all, ap length e) in
     e ∙ sym (put_past row_cmp row all k (before_far (take k all) worst row far near) size) ∙ ap (take k) (sym (sorted_more row before))
 
+-- so it is, where the last of the rows is told
+pub farther_out : (w : Nearing) (before : List Row) (worst : ℕ) (row : Row) → w.rows ≡ first_rows w.count before → worst_of w ≡ Some worst → worst < row.distance → w.rows ≡ first_rows w.count (before ++ row ∷ [])
+farther_out w before worst row e told far =
+    let P : Bool → Type 0 = λ b. nat_lt (length w.rows) w.count ≡ b → cond b None (last_distance w.rows) ≡ Some worst → (w.count ≤ length w.rows) × (last_distance w.rows ≡ Some worst) in
+    let split : (b : Bool) → P b = elim [ true ↦ λ t k. cc | false ↦ λ t k. ((grind (arith, nat_tests)), k) ] in
+    let full = split (nat_lt (length w.rows) w.count) refl told in
+    first_without w.count row w.rows before worst e full.0 full.1 far
+
+-- the first rows don't hang on the order of the rows
+pub first_of_same : (count : ℕ) (xs ys : List Row) → SameElements xs ys → first_rows count xs ≡ first_rows count ys
+first_of_same count xs ys same = ap (take count) (sorted_of_same row_cmp row_total row_exact xs ys same)
+
 -- nothing was offered
 pub takes_none : (m : MetricSpace) (query : List ℤ) (w : Nearing) (steps : ℕ) → Takes m query w steps [] w steps
 takes_none m query w steps = record { same_dists = refl; same_count = refl; rows_are = λ before e. e ∙ ap (first_rows w.count) (sym (append-nil before)); ticks = omega arith }
@@ -129,13 +141,10 @@ take_refused m is query fq w steps o fo me f =
       | Some v ↦ λ h. (v, refl, leb-false (m.d query o.object.vector) v (refused_far m is query o.object.vector w.dists o.dists v fq fo me h))
     ] in
     let found = go (worst_of w) f in
-    let P : Bool → Type 0 = λ b. nat_lt (length w.rows) w.count ≡ b → cond b None (last_distance w.rows) ≡ Some found.0 → (w.count ≤ length w.rows) × (last_distance w.rows ≡ Some found.0) in
-    let split : (b : Bool) → P b = elim [ true ↦ λ t e. cc | false ↦ λ t e. ((grind (arith, nat_tests)), e) ] in
-    let full = split (nat_lt (length w.rows) w.count) refl found.1 in
     record {
       same_dists = refl;
       same_count = refl;
-      rows_are = λ before e. first_without w.count row w.rows before found.0 e full.0 full.1 found.2;
+      rows_are = λ before e. farther_out w before found.0 row e found.1 found.2;
       ticks = omega arith;
     }
 

@@ -4,5 +4,8 @@
 mod laws;
 mod work;
 
-pub use laws::taking_goes_on;
+pub use laws::{first_rows_stay, taking_goes_on};
 pub use work::NearestWork;
+
+#[cfg(test)]
+mod tests;

@@ -1,5 +1,5 @@
 //! What a query for the nearest keeps of the entries that it is offered.
-ghost use Rattle.std.specs.Prelude.{◌≡◌, ◌+◌, ◌≤◌, [], ◌∷◌, IsTrue, OnOk, OnErr, cond, length, take};
+ghost use Rattle.std.specs.Prelude.{◌≡◌, ◌↔◌, ◌+◌, ◌≤◌, [], ◌∷◌, IsSome, IsTrue, OnOk, OnErr, cond, length, take};
 ghost use Rattle.arrayvec.specs.ArrayVec.{array_vec_len};
 ghost use Rattle.mi_base.specs.History.{row_cmp};
 ghost use Rattle.mi_base.specs.Sorting.{put};
@@ -92,7 +92,8 @@ impl NearestWork {
 
     /// The greatest distance kept, once there are as many rows as the query is for.
     pub fn worst(&self) -> Option<u32>
-        ensures { result ≡ worst_of self.now }
+        ensures value { result ≡ worst_of self.now }
+        ensures told { IsSome result ↔ (self.now.count ≤ length self.now.rows) }
     {
         if self.rows.len() < self.count as usize {
             return None;
