@@ -1,7 +1,7 @@
 -- What a range query keeps, one entry after another.
-use Rattle.std.proofs.Common.{◌≡◌, ℕ, ◌+◌, List, [], ◌∷◌, ◌++◌, map, false, cond, IsTrue, nat_le, refl, sym, ap, ◌∙◌, arith, append_assoc, append-nil}
+use Rattle.std.proofs.Common.{◌≡◌, ℕ, ◌+◌, List, [], ◌∷◌, ◌++◌, map, Bool, true, false, cond, IsTrue, nat_le, refl, sym, ap, ◌∙◌, arith, append_assoc, append-nil}
 use Rattle.std.specs.Prelude.{ℤ}
-use Rattle.std.specs.List.{filter}
+use Rattle.std.specs.List.{AllByRecursion, filter}
 use Rattle.std.proofs.lemmas.List.{map-append}
 use Rattle.std.proofs.lemmas.List.Elements.{filter-append}
 use Rattle.std.proofs.lemmas.List.Sums.{sum_by-append}
@@ -59,3 +59,17 @@ takes_more m query u v w k l n xs ys a b =
           omega arith;
       ticks = omega (arith, a.ticks, b.ticks);
     }
+
+-- what is farther than the radius is no row
+pub hits_without : (m : MetricSpace) (query : List ℤ) (radius : ℕ) (p : Object → Bool) (objects : List Object) → AllByRecursion (λ o. p o ≡ false → nat_le (m.d query o.vector) radius ≡ false) objects
+    → hits m query radius (filter p objects) ≡ hits m query radius objects
+hits_without m query radius p [] far = refl
+hits_without m query radius p (o ∷ objects) far =
+    let rest = hits_without m query radius p objects far.1 in
+    let near = nat_le (m.d query o.vector) radius in
+    let P : Bool → Type 0 = λ b. p o ≡ b → hits m query radius (cond b (o ∷ filter p objects) (filter p objects)) ≡ hits m query radius (o ∷ objects) in
+    let go : (b : Bool) → P b = elim [
+      | true ↦ λ e. ap (λ rows. cond near (row_of m query o ∷ rows) rows) rest
+      | false ↦ λ e. rest ∙ ap (λ b. cond b (row_of m query o ∷ hits m query radius objects) (hits m query radius objects)) (sym (far.0 e))
+    ] in
+    go (p o) refl

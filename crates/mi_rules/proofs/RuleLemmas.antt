@@ -1,12 +1,12 @@
 -- The rules as facts of distances, and that none of them drops an answer.
-use Rattle.std.proofs.Common.{◌≡◌, ℕ, suc, zero, ℤ, ◌+◌, ◌-◌, ◌*◌, ◌<◌, ◌≤◌, List, [], ◌∷◌, map, length, take, get_or, Bool, true, false, ◌&&◌, ◌||◌, IsTrue, nat_le, nat_eq, refl, sym, ap, ◌∙◌, subst, arith, zero-add, Option, Some, None}
+use Rattle.std.proofs.Common.{◌≡◌, ℕ, suc, zero, ℤ, ◌+◌, ◌-◌, ◌*◌, ◌<◌, ◌≤◌, ◌^◌, List, [], ◌∷◌, map, length, take, get_or, Bool, true, false, ◌&&◌, ◌||◌, IsTrue, nat_le, nat_eq, refl, sym, ap, ◌∙◌, subst, arith, zero-add, Option, Some, None}
 use Rattle.std.specs.Prelude.{max, slice_index, slice_get}
 use Rattle.std.specs.Int.{abs_diff}
 use Rattle.std.specs.Ordering.{nat_cmp, is_lt, ordering_then}
 use Rattle.std.specs.declared.cmp.Ordering.{Ordering}
 use Rattle.std.specs.declared.cmp.Ordering.TheVariants.{Less, Equal, Greater}
 use Rattle.std.specs.List.{list_all, range_with_len, AllByRecursion}
-use Rattle.std.proofs.lemmas.Bool.{and_parts, eqb-true, false≢true, leb-true}
+use Rattle.std.proofs.lemmas.Bool.{and_parts, eqb-true, false≢true, leb-false, leb-true}
 use Rattle.std.proofs.lemmas.Bool.Decides.{nat_tests}
 use Rattle.std.proofs.lemmas.List.{length-map}
 use Rattle.std.proofs.lemmas.Map.Keys.{ge_from_not_lt}
@@ -231,7 +231,7 @@ no_pivot (d ∷ dists) e = absurd (omega arith)
 
 -- a key of what the filter lets through lies in its leaf's span
 pub filter_spans : (dq dists : List ℕ) (r levels : ℕ) (prefix : List ℕ) (parts : KeyParts) → length dq ≡ length dists → lets_through r dq dists ≡ true → begins prefix (permutation_of dists) ≡ true
-    → (prefix ≡ [] → dq ≡ []) → key_distance dists ≤ 128000000 → parts.cluster ≡ cluster_of (length dq) levels prefix → parts.distance ≡ key_distance dists → is_in_span dq r levels prefix parts ≡ true
+    → (prefix ≡ [] → dq ≡ []) → key_distance dists < 2 ^ 27 → parts.cluster ≡ cluster_of (length dq) levels prefix → parts.distance ≡ key_distance dists → is_in_span dq r levels prefix parts ≡ true
 filter_spans dq dists r levels [] parts e f b empty small c d =
     let zero_distance : key_distance dists ≡ 0 = no_pivot dists (sym e ∙ ap length (empty refl)) in
     let same : nat_eq parts.cluster (cluster_of (length dq) levels []) ≡ true = grind (arith, nat_tests) in
@@ -274,9 +274,11 @@ pub answer_spans : (space : Space) (query object : List ℤ) (r : ℕ) → IsAns
 answer_spans space query object r a leaf h empty levels key c d =
     let dq = distances space query in
     let dists = distances space object in
+    let first = first_bounded 128000000 dists (permutation_of dists) (bounded_at space.metric a.metric object a.object_fits space.pivots a.pivots_fit) in
+    let small : key_distance dists < 2 ^ 27 = omega arith in
     filter_spans dq dists r levels leaf.prefix key (same_lengths space query object) (answer_filters space query object r a) h.begun
     (λ none. ap (map (space.metric.d query)) (empty none))
-    (first_bounded 128000000 dists (permutation_of dists) (bounded_at space.metric a.metric object a.object_fits space.pivots a.pivots_fit))
+    small
     (c ∙ ap (λ n. cluster_of n levels leaf.prefix) (sym (length-map space.pivots (λ p. space.metric.d query p)))) d
 
 -- what the filter refuses is farther than the radius
@@ -292,3 +294,17 @@ refused_far m is query object dq dists r fq fo me f =
 -- the two lists of measured distances have one length
 pub measured_lengths : (m : MetricSpace) (query object : List ℤ) (dq dists : List ℕ) → Measured m query dq object dists → length dq ≡ length dists
 measured_lengths m query object dq dists me = ap length me.of_query ∙ same_lengths (record { metric = m; pivots = me.pivots }) query object ∙ ap length (sym me.of_object)
+
+-- from its bound on a leaf passes
+pub bound_passes : (dq : List ℕ) (leaf : Leaf) (bound : ℕ) → IsBound dq leaf (Some bound) → (r : ℕ) → passes dq r leaf ≡ nat_le bound r
+bound_passes dq leaf bound b r =
+    let Q : Bool → Type 0 = λ t. passes dq r leaf ≡ t → r < bound → t ≡ false in
+    let below : (t : Bool) → Q t = elim [ true ↦ λ e lt. absurd (let le = b.1 r e in omega arith) | false ↦ λ e lt. refl ] in
+    let P : Bool → Type 0 = λ t. nat_le bound r ≡ t → passes dq r leaf ≡ t in
+    let go : (t : Bool) → P t = elim [ true ↦ λ e. passing_grows dq leaf bound r (leb-true bound r e) b.0 | false ↦ λ e. below (passes dq r leaf) refl (leb-false bound r e) ] in
+    go (nat_le bound r) refl
+
+-- no object of a leaf is nearer than its bound
+pub answer_bound : (space : Space) (query object : List ℤ) (r : ℕ) → IsAnswer space query object r → (leaf : Leaf) → MayHold leaf (distances space object)
+    → (bound : ℕ) → IsBound (distances space query) leaf (Some bound) → bound ≤ r
+answer_bound space query object r a leaf h bound b = b.1 r (answer_passes space query object r a leaf h)
