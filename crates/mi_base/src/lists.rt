@@ -89,6 +89,13 @@ impl<T> Sequence<T> {
             items: Vec::with_capacity(alloc, room)?,
         })
     }
+
+    /// The list of these items. It takes no memory.
+    pub fn from_vec(items: Vec<T>) -> Self
+        ensures { result ≡ items.items }
+    {
+        Sequence { items }
+    }
 }
 
 /// Puts rows in their order, by distance, then identifier. It takes no memory.

@@ -5,5 +5,6 @@ pub mod Counting
 pub mod InTurn
 pub mod Legal
 pub mod Order
+pub mod Passing
 pub mod Right
 pub mod Passing

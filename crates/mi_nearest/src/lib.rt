@@ -1,0 +1,11 @@
+//! Queries for the nearest objects.
+#![tactic(auto)]
+
+mod laws;
+mod work;
+
+pub use laws::{first_rows_stay, taking_goes_on};
+pub use work::NearestWork;
+
+#[cfg(test)]
+mod tests;

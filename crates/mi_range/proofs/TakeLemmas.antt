@@ -1,0 +1,75 @@
+-- What a range query keeps, one entry after another.
+use Rattle.std.proofs.Common.{◌≡◌, ℕ, ◌+◌, List, [], ◌∷◌, ◌++◌, map, Bool, true, false, cond, IsTrue, nat_le, refl, sym, ap, ◌∙◌, arith, append_assoc, append-nil}
+use Rattle.std.specs.Prelude.{ℤ}
+use Rattle.std.specs.List.{AllByRecursion, filter}
+use Rattle.std.proofs.lemmas.List.{map-append}
+use Rattle.std.proofs.lemmas.List.Elements.{filter-append}
+use Rattle.std.proofs.lemmas.List.Sums.{sum_by-append}
+use Rattle.mi_base.specs.declared.records.Row.{Row}
+use Rattle.mi_base.specs.History.{Object, hits, row_of}
+use Rattle.mi_base.specs.Space.{IsMetric, MetricSpace}
+use Rattle.mi_key.specs.Entries.{Offering}
+use Rattle.mi_tree.specs.Passing.{lets_through}
+use Rattle.mi_rules.specs.Answers.{Measured}
+use Rattle.mi_rules.proofs.RuleLemmas.{refused_far}
+use Rattle.mi_range.specs.Ranging.{Ranging, Takes, compared}
+
+-- an entry that the filter refuses is no row and no step
+pub take_refused : (m : MetricSpace) → IsMetric m → (query : List ℤ) → IsTrue (m.fits query) → (w : Ranging) (steps : ℕ) (o : Offering) → IsTrue (m.fits o.object.vector)
+    → Measured m query w.dists o.object.vector o.dists → lets_through w.radius w.dists o.dists ≡ false → Takes m query w steps (o ∷ []) w steps
+take_refused m is query fq w steps o fo me f =
+    let far : nat_le (m.d query o.object.vector) w.radius ≡ false = refused_far m is query o.object.vector w.dists o.dists w.radius fq fo me f in
+    let nothing : compared w.dists w.radius (o ∷ []) ≡ 0 = ap (λ b. 0 + cond b 1 0) f in
+    record {
+      same_dists = refl;
+      same_radius = refl;
+      rows_are = sym (append-nil w.rows) ∙ ap (λ b. w.rows ++ cond b (row_of m query o.object ∷ []) []) (sym far);
+      distances_are = λ _. omega arith;
+      ticks = omega arith;
+    }
+
+-- the rows of two lists, one after the other
+pub hits-append : (m : MetricSpace) (query : List ℤ) (radius : ℕ) (xs ys : List Object) → hits m query radius (xs ++ ys) ≡ hits m query radius xs ++ hits m query radius ys
+hits-append m query radius xs ys =
+    ap (filter (λ (row : Row). nat_le row.distance radius)) (map-append (row_of m query) xs ys)
+    ∙ filter-append (λ (row : Row). nat_le row.distance radius) (map (row_of m query) xs) (map (row_of m query) ys)
+
+-- nothing was offered
+pub takes_none : (m : MetricSpace) (query : List ℤ) (w : Ranging) (steps : ℕ) → Takes m query w steps [] w steps
+takes_none m query w steps = record { same_dists = refl; same_radius = refl; rows_are = sym (append-nil w.rows); distances_are = λ _. omega arith; ticks = omega arith }
+
+-- more was offered
+pub takes_more : (m : MetricSpace) (query : List ℤ) (u v w : Ranging) (k l n : ℕ) (xs ys : List Offering) → Takes m query u k xs v l → Takes m query v l ys w n → Takes m query u k (xs ++ ys) w n
+takes_more m query u v w k l n xs ys a b =
+    let counted : compared u.dists u.radius (xs ++ ys) ≡ compared u.dists u.radius xs + compared u.dists u.radius ys =
+    sum_by-append (λ (o : Offering). cond (lets_through u.radius u.dists o.dists) 1 0) xs ys in
+    let later : compared v.dists v.radius ys ≡ compared u.dists u.radius ys = ap (λ r. compared v.dists r ys) a.same_radius ∙ ap (λ ds. compared ds u.radius ys) a.same_dists in
+    let objects : List Offering → List Object = map (λ (o : Offering). o.object) in
+    record {
+      same_dists = b.same_dists ∙ a.same_dists;
+      same_radius = b.same_radius ∙ a.same_radius;
+      rows_are =
+          b.rows_are ∙ ap (λ rows. rows ++ hits m query v.radius (objects ys)) a.rows_are
+          ∙ ap (λ r. (u.rows ++ hits m query u.radius (objects xs)) ++ hits m query r (objects ys)) a.same_radius
+          ∙ append_assoc u.rows (hits m query u.radius (objects xs)) (hits m query u.radius (objects ys))
+          ∙ ap (λ rows. u.rows ++ rows) (sym (hits-append m query u.radius (objects xs) (objects ys)) ∙ ap (hits m query u.radius) (sym (map-append (λ (o : Offering). o.object) xs ys)));
+      distances_are = λ few.
+          let p : v.distances ≡ u.distances + compared u.dists u.radius xs = a.distances_are (omega arith) in
+          let q : w.distances ≡ v.distances + compared v.dists v.radius ys = b.distances_are (omega arith) in
+          omega arith;
+      ticks = omega (arith, a.ticks, b.ticks);
+    }
+
+-- what is farther than the radius is no row
+pub hits_without : (m : MetricSpace) (query : List ℤ) (radius : ℕ) (p : Object → Bool) (objects : List Object) → AllByRecursion (λ o. p o ≡ false → nat_le (m.d query o.vector) radius ≡ false) objects
+    → hits m query radius (filter p objects) ≡ hits m query radius objects
+hits_without m query radius p [] far = refl
+hits_without m query radius p (o ∷ objects) far =
+    let rest = hits_without m query radius p objects far.1 in
+    let near = nat_le (m.d query o.vector) radius in
+    let P : Bool → Type 0 = λ b. p o ≡ b → hits m query radius (cond b (o ∷ filter p objects) (filter p objects)) ≡ hits m query radius (o ∷ objects) in
+    let go : (b : Bool) → P b = elim [
+      | true ↦ λ e. ap (λ rows. cond near (row_of m query o ∷ rows) rows) rest
+      | false ↦ λ e. rest ∙ ap (λ b. cond b (row_of m query o ∷ hits m query radius objects) (hits m query radius objects)) (sym (far.0 e))
+    ] in
+    go (p o) refl
