@@ -1,1 +1,5 @@
-pub mod LoopLemmas
+pub mod CutLemmas
+pub mod LineLemmas
+mod LoopLemmas
+pub mod NumberLemmas
+pub mod RunLemmas
