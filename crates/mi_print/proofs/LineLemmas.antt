@@ -1,9 +1,10 @@
 -- A line, told from the front of a text: its word, its fields, and the text behind it.
-use Rattle.std.proofs.Common.{◌≡◌, ℕ, ◌<◌, ◌≤◌, List, [], ◌∷◌, ◌++◌, map, Bool, true, false, not, ◌&&◌, ◌==◌, IsTrue, refl, sym, ap, ◌∙◌, arith, append_assoc, ne_eqb}
-use Rattle.std.specs.Prelude.{codes}
+use Rattle.std.proofs.Common.{◌≡◌, ℕ, List, [], ◌∷◌, ◌++◌, map, Bool, false, not, ◌&&◌, ◌==◌, IsTrue, bytes_eq, refl, sym, ◌∙◌, arith, append_assoc, ne_eqb}
 use Rattle.std.specs.Fmt.{decimal}
-use Rattle.std.specs.List.{flat_map, list_all, AllByRecursion}
-use Rattle.mi_print.specs.Render.{after_commas, line, number_line, prefix_text}
+use Rattle.std.proofs.lemmas.Bool.Decides.{not_from_Decides}
+use Rattle.std.proofs.lemmas.Slice.Eq.{bytes_eq-Decides}
+use Rattle.std.specs.List.{list_all}
+use Rattle.mi_print.specs.Render.{after_commas, line, number_line}
 use Rattle.mi_print.specs.Meaning.{AreNumbers}
 use Rattle.mi_print.proofs.CutLemmas.{joined, joined_is, AllPass, first_same, joined_same}
 use Rattle.mi_print.proofs.NumberLemmas.{TakesDigits, decimals_pass, decimals_same}
@@ -20,6 +21,10 @@ AreFields fields = AllPass is_inner fields
 
 pub inner_digits : TakesDigits is_inner
 inner_digits = record { takes = λ c low high. rw (ne_eqb c 44 (λ e. omega arith), ne_eqb c 10 (λ e. omega arith)) refl }
+
+-- words that a test tells apart
+pub words_differ : (v w : List ℕ) → bytes_eq v w ≡ false → v ≡ w → ⊥
+words_differ v w e = not_from_Decides (bytes_eq v w) (bytes_eq-Decides v w) e
 
 -- a line and what follows it
 line_joined : (f : List ℕ) (fields : List (List ℕ)) (a : List ℕ) → line f fields ++ a ≡ joined 44 10 f fields a

@@ -1,7 +1,6 @@
 -- Decimal numbers as parts of a line: digits alone, so without commas, points and line feeds, and no two alike.
-use Rattle.std.proofs.Common.{◌≡◌, ℕ, suc, ◌+◌, ◌<◌, ◌≤◌, ◌^◌, ℤ, pos, negsuc, List, [], ◌∷◌, map, Bool, true, false, not, ◌&&◌, ◌==◌, IsTrue, refl, sym, ap, ◌∙◌, arith, ne_eqb}
+use Rattle.std.proofs.Common.{◌≡◌, ℕ, suc, ◌<◌, ◌≤◌, ◌^◌, ℤ, pos, negsuc, List, [], ◌∷◌, ◌++◌, length, map, Bool, true, IsTrue, refl, arith}
 use Rattle.std.specs.Fmt.{decimal, signed_decimal}
-use Rattle.std.specs.Int.Signed.{mag}
 use Rattle.std.specs.Str.Parse.{AllDigits}
 use Rattle.std.specs.List.{list_all}
 use Rattle.std.proofs.lemmas.Bool.{and_from}
@@ -22,6 +21,17 @@ digits_pass p t (d ∷ ds) h =
 
 pub decimal_passes : (p : ℕ → Bool) → TakesDigits p → (n : ℕ) → n < 2 ^ 64 → IsTrue (list_all p (decimal n))
 decimal_passes p t n small = digits_pass p t (decimal n) (decimal_is_IsNumeral n small).0.1
+
+first_digit : (ds rest : List ℕ) (c : ℕ) (more : List ℕ) → 0 < length ds → AllDigits 10 ds → c < 48 → ds ++ rest ≡ c ∷ more → ⊥
+first_digit [] rest c more some digits small e = omega arith
+first_digit (d ∷ ds) rest c more some digits small e =
+    let first : d ≡ c = cc in
+    let range = digit_from_value d digits.0 in
+    omega (arith, range.0)
+
+-- a number begins with a digit
+pub decimal_begins : (n : ℕ) (rest : List ℕ) (c : ℕ) (more : List ℕ) → n < 2 ^ 64 → c < 48 → decimal n ++ rest ≡ c ∷ more → ⊥
+decimal_begins n rest c more small low e = let is = decimal_is_IsNumeral n small in first_digit (decimal n) rest c more is.0.0 is.0.1 low e
 
 pub decimals_pass : (p : ℕ → Bool) → TakesDigits p → (ns : List ℕ) → AreNumbers ns → AllPass p (map decimal ns)
 decimals_pass p t [] h = tt

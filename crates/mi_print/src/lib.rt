@@ -1,8 +1,10 @@
 //! The text of what came of the scripts.
 #![tactic(auto)]
 
+mod laws;
 mod line;
 mod transcript;
 
+pub use laws::one_text_has_one_meaning;
 pub use line::Line;
 pub use transcript::{render, send_numbers};
