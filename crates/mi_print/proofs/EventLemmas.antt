@@ -50,8 +50,8 @@ prefix_same [] (y ∷ ys) hp hq e = absurd (no_dash y ys hq.0 (sym e))
 prefix_same (x ∷ xs) [] hp hq e = absurd (no_dash x xs hp.0 e)
 prefix_same (x ∷ xs) (y ∷ ys) hp hq e =
     let t = joined_same is_pivot_byte 46 10 refl refl (λ same. omega arith) (decimal x) (decimal y) (map decimal xs) (map decimal ys) [] []
-        (decimal_passes is_pivot_byte pivot_digits x hp.0) (decimal_passes is_pivot_byte pivot_digits y hq.0) (decimals_pass is_pivot_byte pivot_digits xs hp.1) (decimals_pass is_pivot_byte pivot_digits ys hq.1)
-        (sym (prefix_joined x xs) ∙ ap (λ s. s ++ 10 ∷ []) e ∙ prefix_joined y ys) in
+    (decimal_passes is_pivot_byte pivot_digits x hp.0) (decimal_passes is_pivot_byte pivot_digits y hq.0) (decimals_pass is_pivot_byte pivot_digits xs hp.1) (decimals_pass is_pivot_byte pivot_digits ys hq.1)
+    (sym (prefix_joined x xs) ∙ ap (λ s. s ++ 10 ∷ []) e ∙ prefix_joined y ys) in
     let first : decimal x ≡ decimal y = t.0 in
     let others : map decimal xs ≡ map decimal ys = t.1 in
     decimals_same (x ∷ xs) (y ∷ ys) hp hq cc
@@ -103,9 +103,9 @@ event_same d e hd he word fields = absurd (words_differ (event_word d) (event_wo
 pub event_tells : Tells IsPrintableEvent event_line
 event_tells = record {
   told = λ d e a b gd ge same.
-    let t = line_same (event_word d) (event_word e) (event_fields d) (event_fields e) a b (event_word_inner d) (event_word_inner e) (event_fields_inner d gd) (event_fields_inner e ge)
-        (sym (ap (λ s. s ++ a) (event_text d)) ∙ same ∙ ap (λ s. s ++ b) (event_text e)) in
-    (event_same d e gd ge t.0 t.1, t.2);
+      let t = line_same (event_word d) (event_word e) (event_fields d) (event_fields e) a b (event_word_inner d) (event_word_inner e) (event_fields_inner d gd) (event_fields_inner e ge)
+      (sym (ap (λ s. s ++ a) (event_text d)) ∙ same ∙ ap (λ s. s ++ b) (event_text e)) in
+      (event_same d e gd ge t.0 t.1, t.2);
 }
 
 abbrev pub IsPrintableCell : Cell → Type 0
@@ -120,8 +120,8 @@ cell_from prefix count = record { prefix = prefix; count = count }
 pub cell_tells : Tells IsPrintableCell cell_line
 cell_tells = record {
   told = λ x y a b gx gy e.
-    let t = number_line_same (prefix_text x.prefix) (prefix_text y.prefix) (x.count ∷ []) (y.count ∷ []) a b (prefix_inner x.prefix gx.1) (prefix_inner y.prefix gy.1) (gx.0, tt) (gy.0, tt) e in
-    let lists : x.count ∷ [] ≡ y.count ∷ [] = t.1 in
-    let counts : x.count ≡ y.count = cc in
-    (ap₂ cell_from (prefix_same x.prefix y.prefix gx.1 gy.1 t.0) counts, t.2);
+      let t = number_line_same (prefix_text x.prefix) (prefix_text y.prefix) (x.count ∷ []) (y.count ∷ []) a b (prefix_inner x.prefix gx.1) (prefix_inner y.prefix gy.1) (gx.0, tt) (gy.0, tt) e in
+      let lists : x.count ∷ [] ≡ y.count ∷ [] = t.1 in
+      let counts : x.count ≡ y.count = cc in
+      (ap₂ cell_from (prefix_same x.prefix y.prefix gx.1 gy.1 t.0) counts, t.2);
 }

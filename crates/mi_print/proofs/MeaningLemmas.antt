@@ -57,8 +57,8 @@ cells_same xs ys a b gx gy nx ny e =
     let counts : length xs ∷ [] ≡ length ys ∷ [] = first.1 in
     let count : length xs ≡ length ys = cc in
     counted IsPrintableCell cell_line cell_tells (map cell_of xs) (map cell_of ys) a b (cells_good xs gx) (cells_good ys gy)
-        (length-map xs cell_of ∙ count ∙ sym (length-map ys cell_of))
-        (sym (ap (λ t. t ++ a) (cells_of xs)) ∙ first.2 ∙ ap (λ t. t ++ b) (cells_of ys))
+    (length-map xs cell_of ∙ count ∙ sym (length-map ys cell_of))
+    (sym (ap (λ t. t ++ a) (cells_of xs)) ∙ first.2 ∙ ap (λ t. t ++ b) (cells_of ys))
 
 -- the lines of entries and pages
 abbrev totals : ℕ → ℕ → ℕ → List ℕ
@@ -73,7 +73,7 @@ totals_same : (d a l e b m : ℕ) → AreNumbers (d ∷ a ∷ l ∷ []) → AreN
 totals_same d a l e b m gx gy same =
     let first = number_line_same (codes "entries") (codes "entries") (d ∷ []) (e ∷ []) (number_line (codes "pages") (a ∷ l ∷ [])) (number_line (codes "pages") (b ∷ m ∷ [])) refl refl (gx.0, tt) (gy.0, tt) same in
     let second = number_line_same (codes "pages") (codes "pages") (a ∷ l ∷ []) (b ∷ m ∷ []) [] [] refl refl gx.1 gy.1
-        (append-nil (number_line (codes "pages") (a ∷ l ∷ [])) ∙ first.2 ∙ sym (append-nil (number_line (codes "pages") (b ∷ m ∷ [])))) in
+    (append-nil (number_line (codes "pages") (a ∷ l ∷ [])) ∙ first.2 ∙ sym (append-nil (number_line (codes "pages") (b ∷ m ∷ [])))) in
     let entries : d ∷ [] ≡ e ∷ [] = first.1 in
     let pages : a ∷ l ∷ [] ≡ b ∷ m ∷ [] = second.1 in
     record { entries = cc; allotted = cc; limit = cc }
@@ -86,12 +86,12 @@ parts : (o : Outcome) → text_of o ≡ session_lines 0 o.replies ++ after_sessi
 parts o = ap (λ t. session_lines 0 o.replies ++ t)
     (append_assoc (number_line (codes "history") (history_counts o.log)) (flat_map event_line o.log) (cell_lines o.cells ++ totals o.entries o.allotted o.limit)
     ∙ ap (λ t. number_line (codes "history") (history_counts o.log) ++ (flat_map event_line o.log ++ t))
-        (append_assoc (number_line (codes "cells") (length o.cells ∷ [])) (flat_map leaf_line o.cells) (totals o.entries o.allotted o.limit)))
+    (append_assoc (number_line (codes "cells") (length o.cells ∷ [])) (flat_map leaf_line o.cells) (totals o.entries o.allotted o.limit)))
 
 pub one_meaning : OneMeaning
 one_meaning a b ga gb e =
     let sessions = sessions_same 0 a.replies b.replies (history_counts a.log) (history_counts b.log) (flat_map event_line a.log ++ cell_part a) (flat_map event_line b.log ++ cell_part b) ga.replies gb.replies
-        (sym (parts a) ∙ e ∙ parts b) in
+    (sym (parts a) ∙ e ∙ parts b) in
     let history = history_same a.log b.log (cell_part a) (cell_part b) ga.log gb.log ga.totals.0 gb.totals.0 sessions.1 in
     let cells = cells_same a.cells b.cells (totals a.entries a.allotted a.limit) (totals b.entries b.allotted b.limit) ga.cells gb.cells ga.totals.1.0 gb.totals.1.0 history.1 in
     let rest = totals_same a.entries a.allotted a.limit b.entries b.allotted b.limit ga.totals.1.1 gb.totals.1.1 cells.1 in

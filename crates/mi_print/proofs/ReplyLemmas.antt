@@ -21,12 +21,12 @@ row_from distance id = record { distance = distance; id = id }
 row_tells : Tells IsPrintableRow row_line
 row_tells = record {
   told = λ x y a b gx gy e.
-    let t = number_line_same (decimal x.distance) (decimal y.distance) (x.id ∷ []) (y.id ∷ []) a b
-        (decimal_passes is_inner inner_digits x.distance gx.0) (decimal_passes is_inner inner_digits y.distance gy.0) gx.1 gy.1 e in
-    let distances : x.distance ≡ y.distance = decimal_injective x.distance y.distance gx.0 gy.0 t.0 in
-    let lists : x.id ∷ [] ≡ y.id ∷ [] = t.1 in
-    let ids : x.id ≡ y.id = cc in
-    (ap₂ row_from distances ids, t.2);
+      let t = number_line_same (decimal x.distance) (decimal y.distance) (x.id ∷ []) (y.id ∷ []) a b
+      (decimal_passes is_inner inner_digits x.distance gx.0) (decimal_passes is_inner inner_digits y.distance gy.0) gx.1 gy.1 e in
+      let distances : x.distance ≡ y.distance = decimal_injective x.distance y.distance gx.0 gy.0 t.0 in
+      let lists : x.id ∷ [] ≡ y.id ∷ [] = t.1 in
+      let ids : x.id ≡ y.id = cc in
+      (ap₂ row_from distances ids, t.2);
 }
 
 abbrev reply_word : Reply → List ℕ
@@ -97,13 +97,13 @@ reply_same x y word numbers rows = absurd (words_differ (reply_word x) (reply_wo
 pub reply_tells : Tells IsPrintableReply reply_lines
 reply_tells = record {
   told = λ x y a b gx gy e.
-    let line_of : (z : Reply) (c : List ℕ) → reply_lines z ++ c ≡ number_line (reply_word z) (reply_numbers z) ++ (row_lines (reply_rows z) ++ c) =
-        λ z c. ap (λ t. t ++ c) (reply_text z) ∙ append_assoc (number_line (reply_word z) (reply_numbers z)) (row_lines (reply_rows z)) c in
-    let first = number_line_same (reply_word x) (reply_word y) (reply_numbers x) (reply_numbers y) (row_lines (reply_rows x) ++ a) (row_lines (reply_rows y) ++ b)
-        (reply_word_inner x) (reply_word_inner y) gx.0 gy.0 (sym (line_of x a) ∙ e ∙ line_of y b) in
-    let rows = counted IsPrintableRow row_line row_tells (reply_rows x) (reply_rows y) a b gx.1 gy.1
-        (sym (rows_are_told x) ∙ ap told_rows first.1 ∙ rows_are_told y) first.2 in
-    (reply_same x y first.0 first.1 rows.0, rows.1);
+      let line_of : (z : Reply) (c : List ℕ) → reply_lines z ++ c ≡ number_line (reply_word z) (reply_numbers z) ++ (row_lines (reply_rows z) ++ c) =
+      λ z c. ap (λ t. t ++ c) (reply_text z) ∙ append_assoc (number_line (reply_word z) (reply_numbers z)) (row_lines (reply_rows z)) c in
+      let first = number_line_same (reply_word x) (reply_word y) (reply_numbers x) (reply_numbers y) (row_lines (reply_rows x) ++ a) (row_lines (reply_rows y) ++ b)
+      (reply_word_inner x) (reply_word_inner y) gx.0 gy.0 (sym (line_of x a) ∙ e ∙ line_of y b) in
+      let rows = counted IsPrintableRow row_line row_tells (reply_rows x) (reply_rows y) a b gx.1 gy.1
+      (sym (rows_are_told x) ∙ ap told_rows first.1 ∙ rows_are_told y) first.2 in
+      (reply_same x y first.0 first.1 rows.0, rows.1);
 }
 
 -- no reply has the word of a session, nor that of the history
@@ -123,9 +123,9 @@ after_sessions counts a = number_line (codes "history") counts ++ a
 other_word : (w : List ℕ) (ns a : List ℕ) → IsField w → ((y : Reply) → reply_word y ≡ w → ⊥) → BeginsNone reply_lines (number_line w ns ++ a)
 other_word w ns a inner differs = record {
   none = λ y b e.
-    let first : number_line (reply_word y) (reply_numbers y) ++ (row_lines (reply_rows y) ++ b) ≡ number_line w ns ++ a =
-        sym (append_assoc (number_line (reply_word y) (reply_numbers y)) (row_lines (reply_rows y)) b) ∙ sym (ap (λ t. t ++ b) (reply_text y)) ∙ e in
-    differs y (word_same (reply_word y) w (map decimal (reply_numbers y)) (map decimal ns) (row_lines (reply_rows y) ++ b) a (reply_word_inner y) inner first);
+      let first : number_line (reply_word y) (reply_numbers y) ++ (row_lines (reply_rows y) ++ b) ≡ number_line w ns ++ a =
+      sym (append_assoc (number_line (reply_word y) (reply_numbers y)) (row_lines (reply_rows y)) b) ∙ sym (ap (λ t. t ++ b) (reply_text y)) ∙ e in
+      differs y (word_same (reply_word y) w (map decimal (reply_numbers y)) (map decimal ns) (row_lines (reply_rows y) ++ b) a (reply_word_inner y) inner first);
 }
 
 -- one session's lines, then those of the others
@@ -149,16 +149,16 @@ pub sessions_same : (n : ℕ) (xs ys : List (List Reply)) (ns ms a b : List ℕ)
 sessions_same n [] [] ns ms a b gx gy e = (refl, e)
 sessions_same n [] (y ∷ ys) ns ms a b gx gy e =
     absurd (words_differ (codes "history") (codes "session") refl
-      (word_same (codes "history") (codes "session") (map decimal ns) (decimal n ∷ []) a (flat_map reply_lines y ++ (session_lines (n + 1) ys ++ after_sessions ms b)) refl refl
-        (e ∙ session_split n y ys (after_sessions ms b))))
+    (word_same (codes "history") (codes "session") (map decimal ns) (decimal n ∷ []) a (flat_map reply_lines y ++ (session_lines (n + 1) ys ++ after_sessions ms b)) refl refl
+    (e ∙ session_split n y ys (after_sessions ms b))))
 sessions_same n (x ∷ xs) [] ns ms a b gx gy e =
     absurd (words_differ (codes "session") (codes "history") refl
-      (word_same (codes "session") (codes "history") (decimal n ∷ []) (map decimal ms) (flat_map reply_lines x ++ (session_lines (n + 1) xs ++ after_sessions ns a)) b refl refl
-        (sym (session_split n x xs (after_sessions ns a)) ∙ e)))
+    (word_same (codes "session") (codes "history") (decimal n ∷ []) (map decimal ms) (flat_map reply_lines x ++ (session_lines (n + 1) xs ++ after_sessions ns a)) b refl refl
+    (sym (session_split n x xs (after_sessions ns a)) ∙ e)))
 sessions_same n (x ∷ xs) (y ∷ ys) ns ms a b gx gy e =
     let behind = append_cancel_left (number_line (codes "session") (n ∷ [])) _ _ (sym (session_split n x xs (after_sessions ns a)) ∙ e ∙ session_split n y ys (after_sessions ms b)) in
     let replies = ended IsPrintableReply reply_lines reply_tells x y (session_lines (n + 1) xs ++ after_sessions ns a) (session_lines (n + 1) ys ++ after_sessions ms b) gx.0 gy.0
-        (sessions_begin_none (n + 1) xs ns a) (sessions_begin_none (n + 1) ys ms b) behind in
+    (sessions_begin_none (n + 1) xs ns a) (sessions_begin_none (n + 1) ys ms b) behind in
     let rest = sessions_same (n + 1) xs ys ns ms a b gx.1 gy.1 replies.1 in
     let first : x ≡ y = replies.0 in
     let others : xs ≡ ys = rest.0 in

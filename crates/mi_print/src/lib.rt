@@ -3,6 +3,8 @@
 
 mod laws;
 mod line;
+#[cfg(test)]
+mod tests;
 mod transcript;
 
 pub use laws::one_text_has_one_meaning;
