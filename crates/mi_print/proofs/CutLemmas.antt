@@ -4,7 +4,7 @@ use Rattle.std.specs.List.{flat_map, list_all, AllByRecursion}
 use Rattle.std.proofs.lemmas.Bool.{and_parts}
 
 -- a byte that passes a test isn't one that fails it
-passes : (p : ℕ → Bool) (x c : ℕ) → p x ≡ true → p c ≡ false → x ≡ c → ⊥
+pub passes : (p : ℕ → Bool) (x c : ℕ) → p x ≡ true → p c ≡ false → x ≡ c → ⊥
 passes p x c held fails e = let h : true ≡ false = sym held ∙ ap p e ∙ fails in cc
 
 -- two texts are the same up to the first byte that fails a test, and from it on

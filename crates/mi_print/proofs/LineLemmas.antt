@@ -40,9 +40,17 @@ pub line_same : (f g : List ℕ) (xs ys : List (List ℕ)) (a b : List ℕ) → 
 line_same f g xs ys a b hf hg hx hy e =
     joined_same is_inner 44 10 refl refl (λ same. omega arith) f g xs ys a b hf hg hx hy (sym (line_joined f xs a) ∙ e ∙ line_joined g ys b)
 
--- a line of a word and numbers is told
+-- a line of a word and numbers is told in decimals
+number_line_cut : (f g : List ℕ) (ns ms : List ℕ) (a b : List ℕ) → IsField f → IsField g → number_line f ns ++ a ≡ number_line g ms ++ b → (f ≡ g) × (map decimal ns ≡ map decimal ms) × (a ≡ b)
+number_line_cut f g ns ms a b hf hg e = line_same f g (map decimal ns) (map decimal ms) a b hf hg (decimals_pass is_inner inner_digits ns) (decimals_pass is_inner inner_digits ms) e
+
+-- what follows a line of a word and numbers
+pub after_line : (f g : List ℕ) (ns ms : List ℕ) (a b : List ℕ) → IsField f → IsField g → number_line f ns ++ a ≡ number_line g ms ++ b → a ≡ b
+after_line f g ns ms a b hf hg e = (number_line_cut f g ns ms a b hf hg e).2
+
+-- a line of a word and numbers of 64 bits is told
 pub number_line_same : (f g : List ℕ) (ns ms : List ℕ) (a b : List ℕ) → IsField f → IsField g → AreNumbers ns → AreNumbers ms
     → number_line f ns ++ a ≡ number_line g ms ++ b → (f ≡ g) × (ns ≡ ms) × (a ≡ b)
 number_line_same f g ns ms a b hf hg hn hm e =
-    let told = line_same f g (map decimal ns) (map decimal ms) a b hf hg (decimals_pass is_inner inner_digits ns hn) (decimals_pass is_inner inner_digits ms hm) e in
+    let told = number_line_cut f g ns ms a b hf hg e in
     (told.0, decimals_same ns ms hn hm told.1, told.2)

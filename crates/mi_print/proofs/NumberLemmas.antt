@@ -1,46 +1,72 @@
 -- Decimal numbers as parts of a line: digits alone, so without commas, points and line feeds, and no two alike.
-use Rattle.std.proofs.Common.{◌≡◌, ℕ, suc, ◌<◌, ◌≤◌, ◌^◌, ℤ, pos, negsuc, List, [], ◌∷◌, ◌++◌, length, map, Bool, true, IsTrue, refl, arith}
-use Rattle.std.specs.Fmt.{decimal, signed_decimal}
-use Rattle.std.specs.Str.Parse.{AllDigits}
+use Rattle.std.proofs.Common.{◌≡◌, ℕ, zero, suc, ◌+◌, ◌/◌, ◌%◌, ◌<◌, ◌≤◌, ℤ, pos, negsuc, List, [], ◌∷◌, ◌++◌, length, map, Bool, true, false, cond, ◌&&◌, ◌==◌, nat_le, IsTrue, refl, ap, ◌∙◌, arith, mod-lt, lt-ltb, le-leb}
+use Rattle.std.specs.Fmt.{decimal, signed_decimal, digits, digits_onto, digit_glyph}
 use Rattle.std.specs.List.{list_all}
-use Rattle.std.proofs.lemmas.Bool.{and_from}
-use Rattle.std.proofs.lemmas.Fmt.{decimal_is_IsNumeral, decimal_injective, signed_decimal_injective}
-use Rattle.std.proofs.lemmas.Str.Parse.{digit_from_value}
+use Rattle.std.proofs.lemmas.Bool.{and_from, and_parts}
+use Rattle.std.proofs.lemmas.Fmt.{decimal_injective, signed_decimal_injective}
 use Rattle.mi_print.specs.Meaning.{AreNumbers, AreCoordinates}
-use Rattle.mi_print.proofs.CutLemmas.{AllPass}
+use Rattle.mi_print.proofs.CutLemmas.{passes, AllPass}
 
 -- a test that each digit passes
 pub record TakesDigits (p : ℕ → Bool) : Type 0 where
   pub takes : (c : ℕ) → 48 ≤ c → c ≤ 57 → p c ≡ true
 
-digits_pass : (p : ℕ → Bool) → TakesDigits p → (ds : List ℕ) → AllDigits 10 ds → IsTrue (list_all p ds)
-digits_pass p t [] h = refl
-digits_pass p t (d ∷ ds) h =
-    let range = digit_from_value d h.0 in
-    and_from (p d) (list_all p ds) (t.takes d range.0 range.1) (digits_pass p t ds h.1)
+-- the glyph of a last digit is a digit
+glyph_passes : (p : ℕ → Bool) → TakesDigits p → (n : ℕ) → p (digit_glyph false (n % 10)) ≡ true
+glyph_passes p t n =
+    let small : n % 10 < 10 = mod-lt n (omega arith) in
+    let is : digit_glyph false (n % 10) ≡ 48 + n % 10 = ap (λ (b : Bool). cond b (48 + n % 10) (87 + n % 10)) (lt-ltb (n % 10) 10 small) in
+    ap p is ∙ t.takes (48 + n % 10) (omega arith) (omega arith)
 
-pub decimal_passes : (p : ℕ → Bool) → TakesDigits p → (n : ℕ) → n < 2 ^ 64 → IsTrue (list_all p (decimal n))
-decimal_passes p t n small = digits_pass p t (decimal n) (decimal_is_IsNumeral n small).0.1
+onto_pass : (p : ℕ → Bool) → TakesDigits p → (k n : ℕ) (rest : List ℕ) → IsTrue (list_all p rest) → IsTrue (list_all p (digits_onto k 10 false n rest))
+onto_pass p t zero n rest h = h
+onto_pass p t (suc k) n rest h =
+    let glyph = digit_glyph false (n % 10) in
+    let more = and_from (p glyph) (list_all p rest) (glyph_passes p t n) h in
+    elim (n / 10 == 0) as (λ b. IsTrue (list_all p (cond b (glyph ∷ rest) (digits_onto k 10 false (n / 10) (glyph ∷ rest))))) [ true ↦ more | false ↦ onto_pass p t k (n / 10) (glyph ∷ rest) more ]
 
-first_digit : (ds rest : List ℕ) (c : ℕ) (more : List ℕ) → 0 < length ds → AllDigits 10 ds → c < 48 → ds ++ rest ≡ c ∷ more → ⊥
-first_digit [] rest c more some digits small e = omega arith
-first_digit (d ∷ ds) rest c more some digits small e =
+-- a number has digits alone
+pub decimal_passes : (p : ℕ → Bool) → TakesDigits p → (n : ℕ) → IsTrue (list_all p (decimal n))
+unfolding digits
+decimal_passes p t n = onto_pass p t 64 n [] refl
+
+onto_some : (k n x : ℕ) (rest : List ℕ) → 0 < length (digits_onto k 10 false n (x ∷ rest))
+onto_some zero n x rest = omega arith
+onto_some (suc k) n x rest =
+    let glyph = digit_glyph false (n % 10) in
+    elim (n / 10 == 0) as (λ b. 0 < length (cond b (glyph ∷ x ∷ rest) (digits_onto k 10 false (n / 10) (glyph ∷ x ∷ rest)))) [ true ↦ omega arith | false ↦ onto_some k (n / 10) glyph (x ∷ rest) ]
+
+-- a number has a digit
+decimal_some : (n : ℕ) → 0 < length (decimal n)
+unfolding digits
+decimal_some n =
+    let glyph = digit_glyph false (n % 10) in
+    elim (n / 10 == 0) as (λ b. 0 < length (cond b (glyph ∷ []) (digits_onto 63 10 false (n / 10) (glyph ∷ [])))) [ true ↦ omega arith | false ↦ onto_some 63 (n / 10) glyph [] ]
+
+abbrev pub is_digit : ℕ → Bool
+is_digit b = nat_le 48 b && nat_le b 57
+
+digit_takes : TakesDigits is_digit
+digit_takes = record { takes = λ c low high. and_from (nat_le 48 c) (nat_le c 57) (le-leb 48 c low) (le-leb c 57 high) }
+
+first_digit : (ds rest : List ℕ) (c : ℕ) (more : List ℕ) → 0 < length ds → IsTrue (list_all is_digit ds) → is_digit c ≡ false → ds ++ rest ≡ c ∷ more → ⊥
+first_digit [] rest c more some digits other e = omega arith
+first_digit (d ∷ ds) rest c more some digits other e =
     let first : d ≡ c = cc in
-    let range = digit_from_value d digits.0 in
-    omega (arith, range.0)
+    passes is_digit d c (and_parts (is_digit d) (list_all is_digit ds) digits).0 other first
 
 -- a number begins with a digit
-pub decimal_begins : (n : ℕ) (rest : List ℕ) (c : ℕ) (more : List ℕ) → n < 2 ^ 64 → c < 48 → decimal n ++ rest ≡ c ∷ more → ⊥
-decimal_begins n rest c more small low e = let is = decimal_is_IsNumeral n small in first_digit (decimal n) rest c more is.0.0 is.0.1 low e
+pub decimal_begins : (n : ℕ) (rest : List ℕ) (c : ℕ) (more : List ℕ) → is_digit c ≡ false → decimal n ++ rest ≡ c ∷ more → ⊥
+decimal_begins n rest c more other e = first_digit (decimal n) rest c more (decimal_some n) (decimal_passes is_digit digit_takes n) other e
 
-pub decimals_pass : (p : ℕ → Bool) → TakesDigits p → (ns : List ℕ) → AreNumbers ns → AllPass p (map decimal ns)
-decimals_pass p t [] h = tt
-decimals_pass p t (n ∷ ns) h = (decimal_passes p t n h.0, decimals_pass p t ns h.1)
+pub decimals_pass : (p : ℕ → Bool) → TakesDigits p → (ns : List ℕ) → AllPass p (map decimal ns)
+decimals_pass p t [] = tt
+decimals_pass p t (n ∷ ns) = (decimal_passes p t n, decimals_pass p t ns)
 
-pub signed_pass : (p : ℕ → Bool) → TakesDigits p → p 45 ≡ true → (zs : List ℤ) → AreCoordinates zs → AllPass p (map signed_decimal zs)
-signed_pass p t sign [] h = tt
-signed_pass p t sign (pos n ∷ zs) h = (decimal_passes p t n (omega arith), signed_pass p t sign zs h.1)
-signed_pass p t sign (negsuc n ∷ zs) h = (and_from (p 45) (list_all p (decimal (suc n))) sign (decimal_passes p t (suc n) (omega arith)), signed_pass p t sign zs h.1)
+pub signed_pass : (p : ℕ → Bool) → TakesDigits p → p 45 ≡ true → (zs : List ℤ) → AllPass p (map signed_decimal zs)
+signed_pass p t sign [] = tt
+signed_pass p t sign (pos n ∷ zs) = (decimal_passes p t n, signed_pass p t sign zs)
+signed_pass p t sign (negsuc n ∷ zs) = (and_from (p 45) (list_all p (decimal (suc n))) sign (decimal_passes p t (suc n)), signed_pass p t sign zs)
 
 pub decimals_same : (ns ms : List ℕ) → AreNumbers ns → AreNumbers ms → map decimal ns ≡ map decimal ms → ns ≡ ms
 decimals_same [] [] hn hm e = refl

@@ -22,7 +22,7 @@ row_tells : Tells IsPrintableRow row_line
 row_tells = record {
   told = λ x y a b gx gy e.
       let t = number_line_same (decimal x.distance) (decimal y.distance) (x.id ∷ []) (y.id ∷ []) a b
-      (decimal_passes is_inner inner_digits x.distance gx.0) (decimal_passes is_inner inner_digits y.distance gy.0) gx.1 gy.1 e in
+      (decimal_passes is_inner inner_digits x.distance) (decimal_passes is_inner inner_digits y.distance) gx.1 gy.1 e in
       let distances : x.distance ≡ y.distance = decimal_injective x.distance y.distance gx.0 gy.0 t.0 in
       let lists : x.id ∷ [] ≡ y.id ∷ [] = t.1 in
       let ids : x.id ≡ y.id = cc in

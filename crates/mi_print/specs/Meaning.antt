@@ -65,7 +65,7 @@ pub record IsPrintable (o : Outcome) : Type 0 where
   pub replies : AllByRecursion (λ session. AllByRecursion IsPrintableReply session) o.replies
   pub log : AllByRecursion IsPrintableEvent o.log
   pub cells : AllByRecursion IsPrintableLeaf o.cells
-  pub totals : AreNumbers (length o.log ∷ length o.cells ∷ o.entries ∷ o.allotted ∷ o.limit ∷ [])
+  pub totals : AreNumbers (o.entries ∷ o.allotted ∷ o.limit ∷ [])
 
 abbrev pub text_of : Outcome → List ℕ
 text_of o = transcript o.replies o.log o.cells o.entries o.allotted o.limit
