@@ -43,14 +43,7 @@ reply_word (Nearest p rows cells) = codes "nearest"
 -- the word is a field
 reply_word_inner : (y : Reply) → IsField (reply_word y)
 reply_word_inner (Stored n) = refl
-reply_word_inner (Removed n) = refl
-reply_word_inner (Present p) = refl
-reply_word_inner (Absent p) = refl
-reply_word_inner (Full limit) = refl
-reply_word_inner (NoPages limit) = refl
-reply_word_inner Memory = refl
-reply_word_inner (Range p rows cells distances) = refl
-reply_word_inner (Nearest p rows cells) = refl
+reply_word_inner y = refl
 
 -- the first line and the rows
 reply_text : (y : Reply) → reply_lines y ≡ number_line (reply_word y) (reply_numbers y) ++ row_lines (reply_rows y)
@@ -64,8 +57,7 @@ told_rows (updates ∷ splits ∷ rows ∷ more) = rows
 told_rows ns = 0
 
 rows_are_told : (y : Reply) → told_rows (reply_numbers y) ≡ length (reply_rows y)
-rows_are_told (Range p rows cells distances) = refl
-rows_are_told (Nearest p rows cells) = refl
+rows_are_told (Stored n) = refl
 rows_are_told y = refl
 
 abbrev position_from : ℕ → ℕ → Position
