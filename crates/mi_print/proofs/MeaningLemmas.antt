@@ -14,12 +14,15 @@ use Rattle.mi_print.proofs.RunLemmas.{ended}
 use Rattle.mi_print.proofs.ReplyLemmas.{after_sessions, sessions_same}
 use Rattle.mi_print.proofs.EventLemmas.{event_tells, cells_begin_none, entries_begin_none, IsPrintableCell, cell_line, cell_tells}
 
+-- the numbers of updates and splits
 abbrev history_counts : List LogEvent → List ℕ
 history_counts log = length (updates_of log) ∷ (length log - length (updates_of log)) ∷ []
 
+-- the number of cells, and what follows
 abbrev cells_part : ℕ → List ℕ → List ℕ
 cells_part count a = number_line (codes "cells") (count ∷ []) ++ a
 
+-- the number of entries, and what follows
 abbrev entries_part : ℕ → List ℕ → List ℕ
 entries_part entries a = number_line (codes "entries") (entries ∷ []) ++ a
 
@@ -63,25 +66,27 @@ totals_same d a l e b m gx gy same =
     let pages : a ∷ l ∷ [] ≡ b ∷ m ∷ [] = second.1 in
     record { entries = cc; allotted = cc; limit = cc }
 
--- the parts of a transcript, each in front of the rest
-abbrev cell_part : Outcome → List ℕ
-cell_part o = number_line (codes "cells") (length o.cells ∷ []) ++ (flat_map leaf_line o.cells ++ totals o.entries o.allotted o.limit)
+-- what follows the number of cells
+abbrev leaf_lines : Outcome → List ℕ
+leaf_lines o = flat_map leaf_line o.cells ++ totals o.entries o.allotted o.limit
 
-parts : (o : Outcome) → text_of o ≡ session_lines 0 o.replies ++ after_sessions (history_counts o.log) (flat_map event_line o.log ++ cell_part o)
-parts o = ap (λ t. session_lines 0 o.replies ++ t)
-    (append_assoc (number_line (codes "history") (history_counts o.log)) (flat_map event_line o.log) (cell_lines o.cells ++ totals o.entries o.allotted o.limit)
-    ∙ ap (λ t. number_line (codes "history") (history_counts o.log) ++ (flat_map event_line o.log ++ t))
-    (append_assoc (number_line (codes "cells") (length o.cells ∷ [])) (flat_map leaf_line o.cells) (totals o.entries o.allotted o.limit)))
+-- what follows the numbers of updates and splits
+abbrev event_lines : Outcome → List ℕ
+event_lines o = flat_map event_line o.log ++ cells_part (length o.cells) (leaf_lines o)
 
 abbrev pages_line : Outcome → List ℕ
 pages_line o = number_line (codes "pages") (o.allotted ∷ o.limit ∷ [])
 
-abbrev leaf_lines : Outcome → List ℕ
-leaf_lines o = flat_map leaf_line o.cells ++ totals o.entries o.allotted o.limit
+-- the parts of a transcript, each in front of the rest
+parts : (o : Outcome) → text_of o ≡ session_lines 0 o.replies ++ after_sessions (history_counts o.log) (event_lines o)
+parts o = ap (λ t. session_lines 0 o.replies ++ t)
+    (append_assoc (number_line (codes "history") (history_counts o.log)) (flat_map event_line o.log) (cell_lines o.cells ++ totals o.entries o.allotted o.limit)
+    ∙ ap (λ t. after_sessions (history_counts o.log) (flat_map event_line o.log ++ t))
+    (append_assoc (number_line (codes "cells") (length o.cells ∷ [])) (flat_map leaf_line o.cells) (totals o.entries o.allotted o.limit)))
 
 pub one_meaning : OneMeaning
 one_meaning a b ga gb e =
-    let sessions = sessions_same 0 a.replies b.replies (history_counts a.log) (history_counts b.log) (flat_map event_line a.log ++ cell_part a) (flat_map event_line b.log ++ cell_part b) ga.replies gb.replies
+    let sessions = sessions_same 0 a.replies b.replies (history_counts a.log) (history_counts b.log) (event_lines a) (event_lines b) ga.replies gb.replies
     (sym (parts a) ∙ e ∙ parts b) in
     let history = history_same a.log b.log (length a.cells) (length b.cells) (leaf_lines a) (leaf_lines b) ga.log gb.log sessions.1 in
     let cells = cells_same a.cells b.cells a.entries b.entries (pages_line a) (pages_line b) ga.cells gb.cells history.1 in
