@@ -1,1 +1,8 @@
-pub mod LoopLemmas
+pub mod CutLemmas
+pub mod EventLemmas
+pub mod LineLemmas
+mod LoopLemmas
+pub mod MeaningLemmas
+pub mod NumberLemmas
+pub mod ReplyLemmas
+pub mod RunLemmas

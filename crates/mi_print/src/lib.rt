@@ -1,8 +1,12 @@
 //! The text of what came of the scripts.
 #![tactic(auto)]
 
+mod laws;
 mod line;
+#[cfg(test)]
+mod tests;
 mod transcript;
 
+pub use laws::one_text_has_one_meaning;
 pub use line::Line;
 pub use transcript::{render, send_numbers};
