@@ -1,0 +1,4 @@
+pub mod NodeLemmas
+pub mod OrderLemmas
+pub mod PlaceLemmas
+pub mod RouteLemmas

@@ -3,6 +3,7 @@ use Rattle.std.specs.Prelude.{ℕ, List, map, Bool, true, not, ◌&&◌, ◌==�
 use Rattle.std.specs.declared.cmp.Ordering.{Ordering}
 use Rattle.std.specs.Ordering.{nat_cmp, on}
 use Rattle.std.specs.List.{filter, list_any}
+use Rattle.mi_base.specs.Prefixes.{has}
 use Rattle.mi_key.specs.declared.entries.Entry.{Entry}
 use Rattle.mi_key.specs.declared.ranges.Interval.{Interval}
 use Rattle.mi_key.specs.Ranges.{is_within}
@@ -16,7 +17,7 @@ entry_cmp = on (λ e. e.key) nat_cmp
 
 -- an entry has this key
 abbrev pub has_entry : ℕ → List Entry → Bool
-has_entry key entries = list_any (λ e. e.key == key) entries
+has_entry key entries = has key (entry_keys entries)
 
 -- an entry has this key, and no death
 abbrev pub has_living : ℕ → List Entry → Bool

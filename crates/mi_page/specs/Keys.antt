@@ -1,5 +1,5 @@
 -- Keys in order, and the range of a page.
-use Rattle.std.specs.Prelude.{◌≡◌, ◌≤◌, ◌<◌, ℕ, List, [], ◌∷◌, length, Bool, true, Option, Some, None, IsTrue, nat_lt}
+use Rattle.std.specs.Prelude.{◌≤◌, ◌<◌, ℕ, List, [], ◌∷◌, length, Bool, true, Option, Some, None, IsTrue, nat_lt}
 use Rattle.std.specs.List.{AllByRecursion}
 
 -- each key is below all later ones

@@ -1,8 +1,12 @@
 //! One page.
-ghost use Rattle.std.specs.Prelude.{◌≡◌, ◌+◌, ◌<◌, ◌≤◌, length, Some, IfOk, slice_get};
+ghost use Rattle.std.specs.Prelude.{◌≡◌, ◌+◌, ◌<◌, ◌≤◌, length, map, true, false, Some, is_some, IfSome, IsSomeAnd, IfOk, slice_get};
+ghost use Rattle.mi_base.specs.Sorting.{put};
+ghost use Rattle.mi_page.specs.Entries.{entry_cmp, has_entry, has_living, with_death, without_key};
+ghost use Rattle.mi_page.specs.Keys.{IsInside};
+ghost use Rattle.mi_page.specs.Routes.{IsChild, has_route, route_cmp};
 ghost use Rattle.mi_page.specs.Nodes.{IsNode, fresh_node, item_count};
 
-use crate::Route;
+use crate::{Route, entries, routes};
 use mi_base::{Id, NoMemory};
 use mi_key::{Entry, Key};
 use std::alloc::Global;
@@ -102,6 +106,64 @@ impl Page {
     {
         let route = &self.routes[place];
         (route.key, route.child)
+    }
+
+    /// Where the entry of this key stands, if there is one.
+    pub fn find(&self, key: Key) -> Option<usize>
+        requires leaf { self.now.level ≡ 0 }
+        ensures some { is_some result ≡ has_entry key self.now.entries }
+        ensures place { IfSome result (λ place. IsSomeAnd (slice_get self.now.entries place) (λ e. e.key ≡ key)) }
+    {
+        entries::find(&self.entries, key)
+    }
+
+    /// The page of the greatest route key not above the key.
+    pub fn child(&self, key: Key) -> u32
+        requires inner { 0 < self.now.level }
+        requires from_low { self.now.low ≤ key }
+        ensures { IsChild key self.now.routes result }
+    {
+        routes::child(&self.routes, key)
+    }
+
+    /// Puts an entry into its place.
+    pub fn insert_spare(&mut self, entry: Entry)
+        requires leaf { self.old.level ≡ 0 }
+        requires few { length self.old.entries < 32 }
+        requires inside { IsInside self.old.low self.old.high entry.key }
+        requires absent { has_entry entry.key self.old.entries ≡ false }
+        ensures { self.new ≡ record self.old { entries = put entry_cmp entry self.old.entries } }
+    {
+        entries::insert(&mut self.entries, entry);
+    }
+
+    /// Puts a route into its place.
+    pub fn insert_route(&mut self, key: Key, child: u32)
+        requires inner { 0 < self.old.level }
+        requires few { length self.old.routes < 32 }
+        requires inside { IsInside self.old.low self.old.high key }
+        requires absent { has_route key self.old.routes ≡ false }
+        ensures { self.new ≡ record self.old { routes = put route_cmp (record { key = key; child = child }) self.old.routes } }
+    {
+        routes::insert(&mut self.routes, Route { key, child });
+    }
+
+    /// Gives the entry of this key its death, the number of an update.
+    pub fn mark_death(&mut self, key: Key, number: u32)
+        requires leaf { self.old.level ≡ 0 }
+        requires living { has_living key self.old.entries ≡ true }
+        ensures { self.new ≡ record self.old { entries = map (with_death key number) self.old.entries } }
+    {
+        entries::mark_death(&mut self.entries, key, number);
+    }
+
+    /// Takes the entry of this key out.
+    pub fn remove(&mut self, key: Key)
+        requires leaf { self.old.level ≡ 0 }
+        requires there { has_entry key self.old.entries ≡ true }
+        ensures { self.new ≡ record self.old { entries = without_key key self.old.entries } }
+    {
+        entries::remove(&mut self.entries, key);
     }
 }
 
