@@ -2,3 +2,4 @@ pub mod NodeLemmas
 pub mod OrderLemmas
 pub mod PlaceLemmas
 pub mod RouteLemmas
+pub mod ShownLemmas

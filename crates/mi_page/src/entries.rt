@@ -1,11 +1,12 @@
 //! Lists of entries in key order.
-ghost use Rattle.std.specs.Prelude.{◌≡◌, ◌<◌, ◌≤◌, ℕ, length, nat_lt, map, true, is_some, IfSome, IsSomeAnd, slice_get, vec_len, vec_capacity};
-ghost use Rattle.std.specs.List.{prefix_len};
+ghost use Rattle.std.specs.Prelude.{◌≡◌, ◌+◌, ◌<◌, ◌≤◌, ℕ, length, nat_lt, map, true, is_some, IfSome, IsSomeAnd, slice_get, vec_len, vec_capacity};
+ghost use Rattle.std.specs.List.{AllByRecursion, prefix_len};
 ghost use Rattle.mi_base.specs.Sorting.{put};
 ghost use Rattle.mi_page.specs.Keys.{Ascending};
-ghost use Rattle.mi_page.specs.Entries.{entry_cmp, entry_keys, has_entry, with_death, without_key};
+ghost use Rattle.mi_key.specs.Entries.{offering_of};
+ghost use Rattle.mi_page.specs.Entries.{entry_cmp, entry_keys, has_entry, is_shown, outlives, shown_in, swept, trimmed, with_death, without_key};
 
-use mi_key::{Entry, Key};
+use mi_key::{Entry, Interval, Key, Sieve};
 
 /// Where an entry with this key stands, if there is one.
 pub fn find(entries: &[Entry], key: Key) -> Option<usize>
@@ -53,6 +54,54 @@ pub fn remove(entries: &mut Vec<Entry>, key: Key)
 {
     let place = place_of(entries, key);
     entries.remove(place);
+}
+
+/// Takes out the entries whose death is at most the floor.
+pub fn trim(entries: &mut Vec<Entry>, floor: u32)
+    ensures items { entries.new.items ≡ trimmed floor entries.old.items }
+    ensures capacity { vec_capacity entries.new ≡ vec_capacity entries.old }
+{
+    entries.retain(|entry| outlives(entry, floor));
+}
+
+/// Takes out the entries of the interval.
+pub fn sweep(entries: &mut Vec<Entry>, range: &Interval)
+    ensures items { entries.new.items ≡ swept range.now entries.old.items }
+    ensures capacity { vec_capacity entries.new ≡ vec_capacity entries.old }
+{
+    entries.retain(|entry| !range.has(&entry.key));
+}
+
+/// Offers the entries of the interval that are shown at a position with so many updates, in key order.
+pub fn offer<S: Sieve>(entries: &[Entry], range: &Interval, updates: u32, sieve: &mut S)
+    requires few { length entries.now ≤ 32 }
+    requires spare { 32 ≤ S.spare sieve.old }
+    requires takes { AllByRecursion (S.takes sieve.old) (shown_in range.now updates entries.now) }
+    ensures offered { S.offered sieve.old (map offering_of (shown_in range.now updates entries.now)) sieve.new }
+    ensures used { S.spare sieve.old ≤ S.spare sieve.new + length (shown_in range.now updates entries.now) }
+{
+    for entry in entries {
+        if range.has(&entry.key) && is_shown(entry, updates) {
+            sieve.offer(entry);
+        }
+    }
+}
+
+/// The entry is shown at a position with so many updates.
+fn is_shown(entry: &Entry, updates: u32) -> bool
+    ensures { result ≡ is_shown updates entry.now }
+{
+    entry.birth <= updates && outlives(entry, updates)
+}
+
+/// The entry's death, if it has one, comes after so many updates.
+fn outlives(entry: &Entry, updates: u32) -> bool
+    ensures { result ≡ outlives entry.now.death updates }
+{
+    match entry.death {
+        None => true,
+        Some(death) => updates < death,
+    }
 }
 
 /// How many entries have a lesser key: where an entry with this key stands or belongs.

@@ -1,19 +1,24 @@
 //! One page.
-ghost use Rattle.std.specs.Prelude.{◌≡◌, ◌+◌, ◌<◌, ◌≤◌, length, map, true, false, Some, is_some, IfSome, IsSomeAnd, IfOk, slice_get};
+ghost use Rattle.std.specs.Prelude.{◌≡◌, ◌+◌, ◌<◌, ◌≤◌, ◌++◌, length, take, drop, vec_len, vec_capacity, map, true, false, Some, is_some, IfSome, IsSomeAnd, IfOk, slice_get};
+ghost use Rattle.std.specs.List.{AllByRecursion};
 ghost use Rattle.mi_base.specs.Sorting.{put};
-ghost use Rattle.mi_page.specs.Entries.{entry_cmp, has_entry, has_living, with_death, without_key};
+ghost use Rattle.mi_key.specs.Entries.{offering_of};
+ghost use Rattle.mi_page.specs.Entries.{entry_cmp, has_entry, has_living, shown_in, swept, trimmed, with_death, without_key};
 ghost use Rattle.mi_page.specs.Keys.{IsInside};
 ghost use Rattle.mi_page.specs.Routes.{IsChild, has_route, route_cmp};
-ghost use Rattle.mi_page.specs.Nodes.{IsNode, fresh_node, item_count};
+ghost use Rattle.mi_page.specs.Nodes.{IsNode, fresh_node, item_count, lower_half, root_node, upper_half};
 
 use crate::{Route, entries, routes};
 use mi_base::{Id, NoMemory};
-use mi_key::{Entry, Key};
+use mi_key::{Entry, Interval, Key, Sieve};
 use std::alloc::Global;
 use std::marker::Model;
 
 /// How many entries or routes a page may have.
 const CAPACITY: usize = 32;
+
+/// How many stay where a full page is halved.
+const HALF: usize = 16;
 
 /// An ordered list of entries or routes, with its range of keys. Its room is taken once, when it is made, so it never grows
 /// and moves by a few words.
@@ -164,6 +169,85 @@ impl Page {
         ensures { self.new ≡ record self.old { entries = without_key key self.old.entries } }
     {
         entries::remove(&mut self.entries, key);
+    }
+
+    /// Takes out the entries whose death is at most the floor.
+    pub fn trim(&mut self, floor: u32)
+        requires leaf { self.old.level ≡ 0 }
+        ensures { self.new ≡ record self.old { entries = trimmed floor self.old.entries } }
+    {
+        entries::trim(&mut self.entries, floor);
+    }
+
+    /// Takes out the entries of the interval.
+    pub fn sweep(&mut self, range: &Interval)
+        requires leaf { self.old.level ≡ 0 }
+        ensures { self.new ≡ record self.old { entries = swept range.now self.old.entries } }
+    {
+        entries::sweep(&mut self.entries, range);
+    }
+
+    /// Offers the entries of the interval that are shown at a position with so many updates, in key order.
+    pub fn offer<S: Sieve>(&self, range: &Interval, updates: u32, sieve: &mut S)
+        requires leaf { self.now.level ≡ 0 }
+        requires spare { 32 ≤ S.spare sieve.old }
+        requires takes { AllByRecursion (S.takes sieve.old) (shown_in range.now updates self.now.entries) }
+        ensures offered { S.offered sieve.old (map offering_of (shown_in range.now updates self.now.entries)) sieve.new }
+        ensures used { S.spare sieve.old ≤ S.spare sieve.new + length (shown_in range.now updates self.now.entries) }
+    {
+        entries::offer(&self.entries, range, updates, sieve);
+    }
+
+    /// Halves a full page: the upper half moves to a fresh page, which becomes the right sibling under its number.
+    pub fn split_into(&mut self, fresh: &mut Page, number: u32)
+        requires full { item_count self.old ≡ 32 }
+        requires fresh { fresh.old ≡ fresh_node }
+        ensures lower { self.new ≡ lower_half number self.old }
+        ensures upper { fresh.new ≡ upper_half self.old }
+    {
+        let middle = if self.level == 0 {
+            self.entries[HALF].key
+        } else {
+            self.routes[HALF].key
+        };
+        fresh.level = self.level;
+        fresh.low = middle;
+        fresh.high = self.high;
+        fresh.right = self.right;
+        self.high = Some(middle);
+        self.right = Some(number);
+        move_upper(&mut self.entries, &mut fresh.entries);
+        move_upper(&mut self.routes, &mut fresh.routes);
+    }
+
+    /// Makes a fresh page a root with two routes.
+    pub fn make_root(&mut self, level: u32, left: u32, key: Key, child: u32)
+        requires fresh { self.old ≡ fresh_node }
+        requires inner { 0 < level }
+        requires key { 0 < key }
+        ensures { self.new ≡ root_node level left key child }
+    {
+        let first = Route {
+            key: self.low,
+            child: left,
+        };
+        self.level = level;
+        self.routes.push_reserved(first);
+        self.routes.push_reserved(Route { key, child });
+    }
+}
+
+/// Moves what follows the lower half of a full list to the end of another list, in order.
+fn move_upper<T: Drop>(from: &mut Vec<T>, to: &mut Vec<T>)
+    requires { vec_len to.old + vec_len from.old ≤ vec_capacity to.old }
+    ensures stay { from.new.items ≡ take 16 from.old.items }
+    ensures moved { to.new.items ≡ to.old.items ++ drop 16 from.old.items }
+    ensures from_capacity { vec_capacity from.new ≡ vec_capacity from.old }
+    ensures to_capacity { vec_capacity to.new ≡ vec_capacity to.old }
+{
+    let start = HALF.min(from.len());
+    for item in from.drain(start..) {
+        to.push_reserved(item);
     }
 }
 
