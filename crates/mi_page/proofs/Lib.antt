@@ -1,3 +1,4 @@
+pub mod HalfLemmas
 pub mod NodeLemmas
 pub mod OrderLemmas
 pub mod PlaceLemmas

@@ -6,7 +6,7 @@ ghost use Rattle.mi_key.specs.Entries.{offering_of};
 ghost use Rattle.mi_page.specs.Entries.{entry_cmp, has_entry, has_living, shown_in, swept, trimmed, with_death, without_key};
 ghost use Rattle.mi_page.specs.Keys.{IsInside};
 ghost use Rattle.mi_page.specs.Routes.{IsChild, has_route, route_cmp};
-ghost use Rattle.mi_page.specs.Nodes.{IsNode, fresh_node, item_count, lower_half, root_node, upper_half};
+ghost use Rattle.mi_page.specs.Nodes.{IsNode, fresh_node, item_count, lower_half, middle_key, root_node, upper_half};
 
 use crate::{Route, entries, routes};
 use mi_base::{Id, NoMemory};
@@ -205,11 +205,7 @@ impl Page {
         ensures lower { self.new ≡ lower_half number self.old }
         ensures upper { fresh.new ≡ upper_half self.old }
     {
-        let middle = if self.level == 0 {
-            self.entries[HALF].key
-        } else {
-            self.routes[HALF].key
-        };
+        let middle = self.middle();
         fresh.level = self.level;
         fresh.low = middle;
         fresh.high = self.high;
@@ -234,6 +230,18 @@ impl Page {
         self.level = level;
         self.routes.push_reserved(first);
         self.routes.push_reserved(Route { key, child });
+    }
+
+    /// The key at which the full page is halved.
+    fn middle(&self) -> Key
+        requires { item_count self.now ≡ 32 }
+        ensures { result ≡ middle_key self.now }
+    {
+        if self.level == 0 {
+            self.entries[HALF].key
+        } else {
+            self.routes[HALF].key
+        }
     }
 }
 

@@ -1,4 +1,4 @@
-use Rattle.std.proofs.Common.{◌≡◌, arith, sym, ◌∙◌, ap, ◌&&◌, true, take, map}
+use Rattle.std.proofs.Common.{sym, ◌∙◌, ◌&&◌, take, map}
 use Rattle.mi_key.specs.Entries.{offering_of}
 use Rattle.mi_key.specs.Ranges.{is_within}
 use Rattle.mi_page.specs.Entries.{is_shown, shown_in}

@@ -1,4 +1,4 @@
-use Rattle.std.proofs.Common.{◌≡◌, ◌+◌, ◌≤◌, length, map, take}
+use Rattle.std.proofs.Common.{◌+◌, ◌≤◌, length, map, take}
 use Rattle.mi_key.specs.Entries.{offering_of}
 use Rattle.mi_page.specs.Entries.{shown_in}
 use Rattle.mi_page.proofs.entries.offer.Given as goal
