@@ -10,7 +10,7 @@ use Rattle.mi_page.specs.declared.routes.Route.{Route}
 use Rattle.mi_page.specs.Keys.{AreOrdered, IsInside}
 use Rattle.mi_page.specs.Entries.{entry_keys, entry_cmp, has_entry, has_living, with_death}
 use Rattle.mi_page.specs.Routes.{route_keys, route_cmp, has_route}
-use Rattle.mi_page.specs.Nodes.{Node, IsNode}
+use Rattle.mi_page.specs.Nodes.{Node, IsNode, item_count}
 use Rattle.mi_page.proofs.OrderLemmas.{put_ordered, put_keys, put_first, filter_ordered}
 
 -- a leaf page with other entries in order
@@ -24,7 +24,7 @@ leaf_keeps p entries h leaf o = record {
 }
 
 -- one entry more
-pub insert_entry_keeps : (p : Node) (e : Entry) (entries : List Entry) → IsNode p → p.level ≡ 0 → length p.entries < 32 → IsInside p.low p.high e.key → has_entry e.key p.entries ≡ false
+pub insert_entry_keeps : (p : Node) (e : Entry) (entries : List Entry) → IsNode p → p.level ≡ 0 → item_count p < 32 → IsInside p.low p.high e.key → has_entry e.key p.entries ≡ false
     → entries ≡ put entry_cmp e p.entries → IsNode (record p { entries = entries })
 insert_entry_keeps p e entries h leaf few inside new is =
     let keys : entry_keys entries ≡ put nat_cmp e.key (entry_keys p.entries) = ap entry_keys is ∙ put_keys (λ x. x.key) e p.entries in
@@ -32,7 +32,7 @@ insert_entry_keeps p e entries h leaf few inside new is =
     (subst (AreOrdered p.low p.high) (sym keys) (put_ordered p.low p.high e.key (entry_keys p.entries) h.entries (omega (arith, length-map p.entries (λ x. x.key))) inside new))
 
 -- one route more
-pub insert_route_keeps : (p : Node) (r : Route) (routes : List Route) → IsNode p → 0 < p.level → length p.routes < 32 → IsInside p.low p.high r.key → has_route r.key p.routes ≡ false
+pub insert_route_keeps : (p : Node) (r : Route) (routes : List Route) → IsNode p → 0 < p.level → item_count p < 32 → IsInside p.low p.high r.key → has_route r.key p.routes ≡ false
     → routes ≡ put route_cmp r p.routes → IsNode (record p { routes = routes })
 insert_route_keeps p r routes h above few inside new is =
     let keys : route_keys routes ≡ put nat_cmp r.key (route_keys p.routes) = ap route_keys is ∙ put_keys (λ x. x.key) r p.routes in

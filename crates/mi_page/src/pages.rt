@@ -97,7 +97,7 @@ impl Page {
     /// The entry at a place in key order.
     pub fn entry(&self, place: usize) -> &Entry
         requires leaf { self.now.level ≡ 0 }
-        requires within { place < length self.now.entries }
+        requires within { place < item_count self.now }
         ensures { slice_get self.now.entries place ≡ Some result.now }
     {
         &self.entries[place]
@@ -106,7 +106,7 @@ impl Page {
     /// The key and the page of the route at a place in key order.
     pub fn route(&self, place: usize) -> (Key, u32)
         requires inner { 0 < self.now.level }
-        requires within { place < length self.now.routes }
+        requires within { place < item_count self.now }
         ensures { slice_get self.now.routes place ≡ Some (record { key = result.0; child = result.1 }) }
     {
         let route = &self.routes[place];
@@ -134,7 +134,7 @@ impl Page {
     /// Puts an entry into its place.
     pub fn insert_spare(&mut self, entry: Entry)
         requires leaf { self.old.level ≡ 0 }
-        requires few { length self.old.entries < 32 }
+        requires few { item_count self.old < 32 }
         requires inside { IsInside self.old.low self.old.high entry.key }
         requires absent { has_entry entry.key self.old.entries ≡ false }
         ensures { self.new ≡ record self.old { entries = put entry_cmp entry self.old.entries } }
@@ -145,7 +145,7 @@ impl Page {
     /// Puts a route into its place.
     pub fn insert_route(&mut self, key: Key, child: u32)
         requires inner { 0 < self.old.level }
-        requires few { length self.old.routes < 32 }
+        requires few { item_count self.old < 32 }
         requires inside { IsInside self.old.low self.old.high key }
         requires absent { has_route key self.old.routes ≡ false }
         ensures { self.new ≡ record self.old { routes = put route_cmp (record { key = key; child = child }) self.old.routes } }
