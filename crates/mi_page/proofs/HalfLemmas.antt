@@ -1,5 +1,5 @@
 -- The halves of a full page.
-use Rattle.std.proofs.Common.{◌≡◌, ℕ, zero, suc, ◌<◌, ◌≤◌, List, [], ◌∷◌, ◌++◌, length, get_or, take, drop, Option, Some, refl, sym, ap, ◌∙◌, subst, arith, inl, inr, ◌⊎◌}
+use Rattle.std.proofs.Common.{◌+◌, ◌≡◌, ℕ, zero, suc, ◌<◌, ◌≤◌, List, [], ◌∷◌, ◌++◌, length, get_or, take, drop, Option, Some, refl, sym, ap, ◌∙◌, subst, arith, inl, inr, ◌⊎◌}
 use Rattle.std.specs.Prelude.{slice_get}
 use Rattle.std.specs.List.{AllByRecursion}
 use Rattle.std.proofs.lemmas.Bool.{lt-ltb, cases_eq}
@@ -135,6 +135,45 @@ module _ (p : Node) (h : IsNode p) (full : item_count p ≡ 32) where
 
   pub route_middle : (d : Route) → 0 < p.level → (get_or p.routes 16 d).key ≡ middle_key p
   route_middle d above = sym (get_or-map (λ x. x.key) p.routes 16 d 0 (omega (arith, inner_long above, length-map p.routes (λ x. x.key)))) ∙ inner_middle above
+
+  half_entries : length (take 16 p.entries) + length (take 16 p.routes) ≡ 16
+  half_entries = elim (cases_eq p.level 0) [
+    | inl e ↦ omega (arith, length-take 16 p.entries, length-take 16 p.routes, ap length (h.leaf e))
+    | inr n ↦ omega (arith, length-take 16 p.entries, length-take 16 p.routes, ap length (h.inner (omega arith)))
+  ]
+
+  pub lower_part : (number : ℕ) → IsNode (lower_half number p) × (item_count (lower_half number p) ≡ 16)
+  lower_part number = (lower_node number, half_entries)
+
+  pub upper_part : IsNode (upper_half p) × (item_count (upper_half p) ≡ 16)
+  upper_part = (
+    upper_node,
+    elim (cases_eq p.level 0) [
+      | inl e ↦ omega (arith, length-drop 16 p.entries, length-drop 16 p.routes, ap length (h.leaf e))
+      | inr n ↦ omega (arith, length-drop 16 p.entries, length-drop 16 p.routes, ap length (h.inner (omega arith)))
+    ],
+  )
+
+  -- the key at place 16 is inside the range and above the first
+  middle_at : (keys : List ℕ) → AreOrdered p.low p.high keys → 16 < length keys → IsInside p.low p.high (get_or keys 16 0) × (p.low < get_or keys 16 0)
+  middle_at keys o lt =
+      let first = all_at (IsInside p.low p.high) keys 0 0 o.inside (omega arith) in
+      let up = first_below keys o.ascend lt in
+      (all_at (IsInside p.low p.high) keys 16 0 o.inside lt, (let l = first.from_low in omega arith))
+    where
+      first_below : (ks : List ℕ) → Ascending ks → 16 < length ks → get_or ks 0 0 < get_or ks 16 0
+      first_below [] a l = absurd (omega arith)
+      first_below (k ∷ ks) a l = all_at (λ j. k < j) ks 15 0 a.0 (omega arith)
+
+  pub middle_inside : IsInside p.low p.high (middle_key p) × (p.low < middle_key p)
+  middle_inside =
+      let P : ℕ → Type 0 = λ m. IsInside p.low p.high m × (p.low < m) in
+      elim (cases_eq p.level 0) [
+        | inl e ↦ subst P (leaf_middle e) (middle_at (entry_keys p.entries) h.entries (omega (arith, leaf_long e)))
+        | inr n ↦
+            let above : 0 < p.level = omega arith in
+            subst P (inner_middle above) (middle_at (route_keys p.routes) h.routes (omega (arith, inner_long above)))
+      ]
 
 -- the same with the parts under other names
 pub lower_is : (p : Node) (number m : ℕ) (entries : List Entry) (routes : List Route) → m ≡ middle_key p → entries ≡ take 16 p.entries → routes ≡ take 16 p.routes

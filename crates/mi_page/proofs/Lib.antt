@@ -4,3 +4,4 @@ pub mod OrderLemmas
 pub mod PlaceLemmas
 pub mod RouteLemmas
 pub mod ShownLemmas
+pub mod LawLemmas

@@ -1,8 +1,8 @@
 -- The child of a key.
-use Rattle.std.proofs.Common.{◌≡◌, ℕ, zero, suc, ◌-◌, ◌≤◌, List, [], ◌∷◌, length, get_or, true, false, nat_le, refl, ap, arith, inl, inr}
+use Rattle.std.proofs.Common.{◌∙◌, Some, ◌≡◌, ℕ, zero, suc, ◌-◌, ◌<◌, ◌≤◌, subst, sym, List, [], ◌∷◌, length, get_or, true, false, nat_le, refl, ap, arith, inl, inr}
 use Rattle.std.specs.Prelude.{slice_get}
 use Rattle.std.specs.Option.{IsSomeAnd}
-use Rattle.std.specs.List.{All}
+use Rattle.std.specs.List.{All, AllByRecursion}
 use Rattle.std.specs.List.Sorted.{IsPartitionPoint}
 use Rattle.std.proofs.lemmas.Bool.{cases_lt, leb-true}
 use Rattle.std.proofs.lemmas.Bool.Decides.{nat_tests}
@@ -50,3 +50,36 @@ child_before key routes i d a first le p = record {
           let above : nat_le (get_or routes k e).key key ≡ false = p.1 k e (omega arith) (omega arith) in
           absurd (grind (arith, nat_tests))
     ]
+
+-- a fact of each element, of the one at a place
+all_get : {X : Type 0} (P : X → Type 0) (xs : List X) (i : ℕ) (x : X) → AllByRecursion P xs → slice_get xs i ≡ Some x → P x
+all_get P [] i x h e = absurd (cc)
+all_get P (y ∷ ys) zero x h e = let is : y ≡ x = cc in subst P is h.0
+all_get P (y ∷ ys) (suc i) x h e = all_get P ys i x h.1 e
+
+keys_above : (k : ℕ) (routes : List Route) → AllByRecursion (λ j. k < j) (route_keys routes) → AllByRecursion (λ r. k < r.key) routes
+keys_above k [] h = tt
+keys_above k (r ∷ rs) h = (h.0, keys_above k rs h.1)
+
+-- two places with one key are one
+same_place : (routes : List Route) → Ascending (route_keys routes) → (i j : ℕ) (r s : Route) → slice_get routes i ≡ Some r → slice_get routes j ≡ Some s → r.key ≡ s.key → r ≡ s
+same_place [] a i j r s p q e = absurd (cc)
+same_place (x ∷ xs) a zero zero r s p q e = cc
+same_place (x ∷ xs) a zero (suc j) r s p q e =
+    let lt = all_get (λ (y : Route). x.key < y.key) xs j s (keys_above x.key xs a.0) q in
+    let is : x ≡ r = cc in
+    let same : x.key ≡ s.key = ap (λ (y : Route). y.key) is ∙ e in
+    absurd (omega arith)
+same_place (x ∷ xs) a (suc i) zero r s p q e =
+    let lt = all_get (λ (y : Route). x.key < y.key) xs i r (keys_above x.key xs a.0) p in
+    let is : x ≡ s = cc in
+    let same : x.key ≡ r.key = ap (λ (y : Route). y.key) is ∙ sym e in
+    absurd (omega arith)
+same_place (x ∷ xs) a (suc i) (suc j) r s p q e = same_place xs a.1 i j r s p q e
+
+pub one_child : (key : ℕ) (routes : List Route) (a b : ℕ) → Ascending (route_keys routes) → IsChild key routes a → IsChild key routes b → a ≡ b
+one_child key routes a b up p q =
+    let below = all_get (λ r. r.key ≤ key → r.key ≤ q.route.key) routes p.place p.route q.greatest p.there p.not_above in
+    let above = all_get (λ r. r.key ≤ key → r.key ≤ p.route.key) routes q.place q.route p.greatest q.there q.not_above in
+    let same : p.route.key ≡ q.route.key = omega arith in
+    p.is ∙ ap (λ (r : Route). r.child) (same_place routes up p.place q.place p.route q.route p.there q.there same) ∙ sym q.is
