@@ -33,14 +33,15 @@ pub struct Page {
 }
 
 impl Model for Page {
-    ghost use Rattle.std.specs.Prelude.{◌≡◌, vec_capacity};
-    ghost use Rattle.mi_page.specs.Nodes.{Node, IsNode};
+    ghost use Rattle.mi_page.specs.Nodes.{Node};
 
     ghost Value = { Node };
 
-    ghost view = { λ p. record { level = p.level; low = p.low; high = p.high; right = p.right; entries = p.entries.items; routes = p.routes.items } };
+    ghost use Rattle.mi_page.specs.Pages.{IsPage, node_of};
 
-    ghost invariant = { λ p. IsNode (record { level = p.level; low = p.low; high = p.high; right = p.right; entries = p.entries.items; routes = p.routes.items }) × (vec_capacity p.entries ≡ 32) × (vec_capacity p.routes ≡ 32) };
+    ghost view = { node_of };
+
+    ghost invariant = { IsPage };
 }
 
 impl Page {
