@@ -132,3 +132,9 @@ module _ {X : Type 0} (f : X → ℕ) (key : ℕ) where
   place_within [] a h = absurd (false≢true h)
   place_within (x ∷ xs) a h =
       ltb-true (place (x ∷ xs)) (length (x ∷ xs)) (and_parts (nat_lt (place (x ∷ xs)) (length (x ∷ xs))) (nat_eq (f (get_or (x ∷ xs) (place (x ∷ xs)) x)) key) (sym (has_at (x ∷ xs) x a) ∙ h)).0
+
+  -- whether the element at the place has the key is whether the key is there
+  pub has_here : (xs : List X) (i : ℕ) (d : X) → Ascending (map f xs) → i ≡ place xs → i < length xs → nat_eq (f (get_or xs i d)) key ≡ has key (map f xs)
+  has_here xs i d a e lt =
+      let low : nat_lt (place xs) (length xs) ≡ true = grind (arith, nat_tests) in
+      ap (λ n. nat_eq (f (get_or xs n d)) key) e ∙ sym (has_at xs d a ∙ ap (λ b. b && nat_eq (f (get_or xs (place xs) d)) key) low)

@@ -13,3 +13,6 @@ pub use laws::{
 };
 pub use pages::Page;
 pub use routes::Route;
+
+#[cfg(test)]
+mod tests;

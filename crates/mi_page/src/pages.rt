@@ -132,6 +132,14 @@ impl Page {
         routes::child(&self.routes, key)
     }
 
+    /// A route has this key.
+    pub fn has_route(&self, key: Key) -> bool
+        requires inner { 0 < self.now.level }
+        ensures { result ≡ has_route key self.now.routes }
+    {
+        routes::has(&self.routes, key)
+    }
+
     /// Puts an entry into its place.
     pub fn insert_spare(&mut self, entry: Entry)
         requires leaf { self.old.level ≡ 0 }

@@ -3,7 +3,7 @@ ghost use Rattle.std.specs.Prelude.{◌≡◌, ◌<◌, ◌≤◌, ℕ, length, 
 ghost use Rattle.std.specs.List.{prefix_len};
 ghost use Rattle.mi_base.specs.Sorting.{put};
 ghost use Rattle.mi_page.specs.Keys.{Ascending};
-ghost use Rattle.mi_page.specs.Routes.{IsChild, route_cmp, route_keys};
+ghost use Rattle.mi_page.specs.Routes.{IsChild, has_route, route_cmp, route_keys};
 
 use mi_key::Key;
 
@@ -22,6 +22,15 @@ pub fn child(routes: &[Route], key: Key) -> u32
 {
     let after = routes.partition_point(|route| route.key <= key);
     routes[after - 1].child
+}
+
+/// A route has this key.
+pub fn has(routes: &[Route], key: Key) -> bool
+    requires { Ascending (route_keys routes.now) }
+    ensures { result ≡ has_route key routes.now }
+{
+    let place = place_of(routes, key);
+    place < routes.len() && routes[place].key == key
 }
 
 /// Puts a route into its place.
