@@ -1,5 +1,5 @@
 -- A page stays one.
-use Rattle.std.proofs.Common.{◌≡◌, ℕ, ◌<◌, List, [], ◌∷◌, map, Bool, true, false, cond, ◌&&◌, ◌||◌, nat_eq, refl, sym, ap, ◌∙◌, subst, arith, Some}
+use Rattle.std.proofs.Common.{None, ◌≤◌, ◌≡◌, ℕ, ◌<◌, List, [], ◌∷◌, map, Bool, true, false, cond, ◌&&◌, ◌||◌, nat_eq, refl, sym, ap, ◌∙◌, subst, arith, Some}
 use Rattle.std.specs.Prelude.{slice_get, is_none}
 use Rattle.std.specs.List.{filter}
 use Rattle.std.specs.Ordering.{nat_cmp}
@@ -10,7 +10,7 @@ use Rattle.mi_page.specs.declared.routes.Route.{Route}
 use Rattle.mi_page.specs.Keys.{AreOrdered, IsInside}
 use Rattle.mi_page.specs.Entries.{entry_keys, entry_cmp, has_entry, has_living, with_death}
 use Rattle.mi_page.specs.Routes.{route_keys, route_cmp, has_route}
-use Rattle.mi_page.specs.Nodes.{Node, IsNode, item_count}
+use Rattle.mi_page.specs.Nodes.{Node, IsNode, item_count, fresh_node, root_node}
 use Rattle.mi_page.proofs.OrderLemmas.{put_ordered, put_keys, put_first, filter_ordered}
 
 -- a leaf page with other entries in order
@@ -66,3 +66,24 @@ living_there key [] h = h
 living_there key (e ∷ es) h =
     let Q : Bool → Type 0 = λ b. ((b && is_none e.death) || has_living key es) ≡ true → (b || has_entry key es) ≡ true in
     (elim (nat_eq e.key key) as Q [ true ↦ λ _. refl | false ↦ λ w. living_there key es w ]) h
+
+none_ordered : (low : ℕ) (high : Option ℕ) → AreOrdered low high []
+none_ordered low high = record { few = omega arith; ascend = tt; inside = tt }
+
+pub fresh_is : IsNode fresh_node
+fresh_is = record {
+  entries = none_ordered 0 None;
+  routes = none_ordered 0 None;
+  leaf = λ _. refl;
+  inner = λ _. refl;
+  first = λ above. absurd (omega arith);
+}
+
+pub root_is : (level left key child : ℕ) → 0 < level → 0 < key → IsNode (root_node level left key child)
+root_is level left key child above greater = record {
+  entries = none_ordered 0 None;
+  routes = record { few = omega arith; ascend = ((greater, tt), (tt, tt)); inside = (record { from_low = omega arith; below_high = refl }, (record { from_low = omega arith; below_high = refl }, tt)) };
+  leaf = λ zero. absurd (omega arith);
+  inner = λ _. refl;
+  first = λ _. refl;
+}

@@ -1,5 +1,5 @@
 //! What is true of every page and of every list of entries or routes. The functions do nothing.
-ghost use Rattle.std.specs.Prelude.{◌≡◌, ◌<◌, ◌≤◌, ◌&&◌, ◌++◌, ℕ, List, [], IsTrue, None, Some, map, slice_get, true, false};
+ghost use Rattle.std.specs.Prelude.{◌≡◌, ◌<◌, ◌≤◌, ◌&&◌, ◌++◌, ℕ, Bool, List, [], IsTrue, None, Some, map, slice_get, true, false};
 ghost use Rattle.std.specs.List.{filter};
 ghost use Rattle.mi_base.specs.Sorting.{put};
 ghost use Rattle.mi_key.specs.declared.entries.Entry.{Entry};
@@ -9,8 +9,20 @@ ghost use Rattle.mi_key.specs.Ranges.{is_within};
 ghost use Rattle.mi_page.specs.declared.routes.Route.{Route};
 ghost use Rattle.mi_page.specs.Entries.{entry_cmp, entry_keys, has_entry, has_living, is_shown, shown_in, swept, trimmed, with_death, without_key};
 ghost use Rattle.mi_page.specs.Keys.{Ascending, IsInside};
-ghost use Rattle.mi_page.specs.Routes.{IsChild, route_keys};
-ghost use Rattle.mi_page.specs.Nodes.{IsNode, Node, item_count, lower_half, middle_key, upper_half};
+ghost use Rattle.mi_page.specs.Routes.{IsChild, has_route, route_cmp, route_keys};
+ghost use Rattle.mi_page.specs.Nodes.{IsNode, Node, fresh_node, item_count, lower_half, middle_key, root_node, upper_half};
+
+/// What the calls make of a page is a page. A removal, a trim and a sweep keep what a test keeps.
+pub fn calls_keep_pages()
+    ensures fresh { IsNode fresh_node }
+    ensures root { (level left key child : ℕ) → 0 < level → 0 < key → IsNode (root_node level left key child) }
+    ensures entry { (p : Node) (e : Entry) → IsNode p → p.level ≡ 0 → item_count p < 32 → IsInside p.low p.high e.key → has_entry e.key p.entries ≡ false
+        → IsNode (record p { entries = put entry_cmp e p.entries }) }
+    ensures route { (p : Node) (r : Route) → IsNode p → 0 < p.level → item_count p < 32 → IsInside p.low p.high r.key → has_route r.key p.routes ≡ false
+        → IsNode (record p { routes = put route_cmp r p.routes }) }
+    ensures death { (p : Node) (key number : ℕ) → IsNode p → p.level ≡ 0 → IsNode (record p { entries = map (with_death key number) p.entries }) }
+    ensures kept { (p : Node) (test : Entry → Bool) → IsNode p → p.level ≡ 0 → IsNode (record p { entries = filter test p.entries }) }
+{}
 
 /// The halves of a full page have its entries and routes in their order, each once.
 pub fn halves_have_all()
