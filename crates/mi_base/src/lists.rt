@@ -74,13 +74,6 @@ impl<T> Sequence<T> {
         self.items.pop()
     }
 
-    /// The list of these items. It takes no memory.
-    pub fn from_vec(items: Vec<T>) -> Self
-        ensures { result ≡ items.items }
-    {
-        Sequence { items }
-    }
-
     /// An empty list, for which room for so many items was asked.
     pub fn with_room(alloc: Global, room: usize) -> Result<Self, NoMemory>
         ensures { IfOk result (λ list. list ≡ []) }
