@@ -8,7 +8,7 @@ use Rattle.mi_base.specs.declared.records.Op.TheVariants.{Insert, Delete, Range,
 use Rattle.mi_base.specs.declared.settings.MetricKind.{MetricKind}
 use Rattle.mi_base.specs.declared.settings.MetricKind.TheVariants.{L1, Max, Hamming, Table}
 use Rattle.mi_base.specs.Configuration.{Configuration, HasItsRows, IsWithinLimits, metric_space}
-use Rattle.mi_base.specs.Scripts.{IsOpOver, IsScriptOver}
+use Rattle.mi_base.specs.Scripts.{IsOpOver, IsScriptOver, AreServed, IsServed}
 use Rattle.mi_base.specs.Space.{has_dims, is_row, metric_of}
 use Rattle.mi_base.specs.Vectors.{all_coordinates}
 use Rattle.mi_input.specs.declared.faults.Reason.{Reason}
@@ -17,7 +17,7 @@ use Rattle.mi_input.specs.declared.vectors.Shape.{Shape}
 use Rattle.mi_input.specs.Faults.{◌>>=◌, at_record}
 use Rattle.mi_input.specs.Numbers.{bounded, count_in, number_in, whole_in}
 use Rattle.mi_input.specs.Records.{each, field_in}
-use Rattle.mi_input.specs.Scripts.{AreServed, IsServed, IsUpdate, delete_in, id_in, insert_in, op_in, range_in, script_from}
+use Rattle.mi_input.specs.Scripts.{IsUpdate, delete_in, id_in, insert_in, op_in, range_in, script_from}
 use Rattle.mi_input.specs.Vectors.{shape_of, vector_in}
 use Rattle.mi_input.proofs.CaseLemmas.{and_true, at_record_ok, bind_ok, chosen, ok_same}
 use Rattle.mi_input.proofs.ScriptLemmas.{op_ok}

@@ -63,16 +63,6 @@ script_from shape pivots number (fields ∷ rest) = do
 abbrev pub script_in : Configuration → List ℕ → Result (List Op) Fault
 script_in c bytes = script_from (shape_of c) (length c.pivots) 1 (records_in bytes)
 
--- an operation of a kind that can be read
-abbrev pub IsServed : Op → Type 0
-IsServed (Insert id vector) = Unit {0}
-IsServed (Delete id) = Unit {0}
-IsServed (Range radius query) = Unit {0}
-IsServed (Nearest count query) = ⊥
-
-abbrev pub AreServed : List Op → Type 0
-AreServed ops = AllByRecursion IsServed ops
-
 -- an insert or a delete
 abbrev pub IsUpdate : Op → Type 0
 IsUpdate (Insert id vector) = Unit {0}

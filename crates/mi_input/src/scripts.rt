@@ -4,7 +4,8 @@ ghost use Rattle.csv.specs.Records.{fields_of};
 ghost use Rattle.mi_base.specs.Configuration.{metric_space};
 ghost use Rattle.mi_base.specs.Scripts.{IsScriptOver};
 ghost use Rattle.mi_input.specs.Faults.{Gives, IsFaultOf};
-ghost use Rattle.mi_input.specs.Scripts.{AreServed, AreUpdatesUnderPivots, delete_in, id_in, insert_in, op_in, range_in, script_from, script_in};
+ghost use Rattle.mi_base.specs.Scripts.{AreServed};
+ghost use Rattle.mi_input.specs.Scripts.{AreUpdatesUnderPivots, delete_in, id_in, insert_in, op_in, range_in, script_from, script_in};
 ghost use Rattle.mi_input.specs.Vectors.{IsShape};
 ghost use Rattle.mi_input.specs.Records.{records_in};
 

@@ -11,7 +11,7 @@ use Rattle.mi_base.specs.declared.records.Row.{Row}
 use Rattle.mi_base.specs.Configuration.{Configuration}
 use Rattle.mi_base.specs.History.{updates_of}
 use Rattle.mi_tree.specs.declared.outcomes.Leaf.{Leaf}
-use Rattle.mi_tree.specs.Catalog.{catalog}
+use Rattle.mi_tree.specs.Legal.{cells_of}
 
 -- each field after a comma
 abbrev pub after_commas : List (List ℕ) → List ℕ
@@ -76,6 +76,6 @@ transcript replies log cells entries allotted limit =
     session_lines 0 replies ++ (history_lines log ++ (cell_lines cells
     ++ (number_line (codes "entries") (entries ∷ []) ++ number_line (codes "pages") (allotted ∷ limit ∷ []))))
 
--- the transcript of replies and a log that have so many entries and pages
+-- the transcript of replies and a log, with the cells after it, that have so many entries and pages
 abbrev pub rendering : Configuration → List (List Reply) → List LogEvent → ℕ → ℕ → List ℕ
-rendering c replies log entries allotted = transcript replies log (catalog log) entries allotted c.pages
+rendering c replies log entries allotted = transcript replies log (cells_of c log) entries allotted c.pages

@@ -7,4 +7,3 @@ pub mod Legal
 pub mod Order
 pub mod Passing
 pub mod Right
-pub mod Passing

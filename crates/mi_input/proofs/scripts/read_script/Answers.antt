@@ -1,8 +1,8 @@
 use Rattle.std.proofs.Common.{length}
 use Rattle.mi_base.specs.Configuration.{metric_space}
-use Rattle.mi_base.specs.Scripts.{IsScriptOver}
+use Rattle.mi_base.specs.Scripts.{IsScriptOver, AreServed}
 use Rattle.mi_input.specs.Records.{records_in}
-use Rattle.mi_input.specs.Scripts.{AreServed, AreUpdatesUnderPivots, script_in}
+use Rattle.mi_input.specs.Scripts.{AreUpdatesUnderPivots, script_in}
 use Rattle.mi_input.proofs.CaseLemmas.{gives_law}
 use Rattle.mi_input.proofs.ScriptLaws.{script_over, script_served, script_updates}
 use Rattle.mi_input.proofs.scripts.read_script.Goals as goal

@@ -1,0 +1,46 @@
+-- One operation, and the operations of a script one after another.
+use Rattle.std.specs.Prelude.{◌≡◌, ℕ, ◌+◌, ◌≤◌, List, [], ◌∷◌, ◌++◌, length, MatchOption}
+use Rattle.mi_base.specs.declared.records.LogEvent.{LogEvent}
+use Rattle.mi_base.specs.declared.records.Op.{Op}
+use Rattle.mi_base.specs.declared.records.Reply.{Reply}
+use Rattle.mi_base.specs.declared.records.Reply.TheVariants.{Range}
+use Rattle.mi_base.specs.Configuration.{Configuration}
+use Rattle.mi_base.specs.History.{entered, updates_of}
+use Rattle.mi_tree.specs.Right.{Right}
+use Rattle.mi_tree.specs.Legal.{accepted, reach}
+use Rattle.mi_tree.specs.InTurn.{BeganAt}
+
+-- a log that went on
+pub record Grows (old new : List LogEvent) : Type 0 where
+  pub by : List LogEvent
+  pub is : new ≡ old ++ by
+
+-- a log that went on by splits alone
+pub record GrowsBySplits (old new : List LogEvent) : Type 0 where
+  pub grows : Grows old new
+  pub enters : entered new ≡ entered old
+
+-- a reply with a position tells a log from the one that was found to the one that was left
+abbrev pub TellsBetween : List LogEvent → List LogEvent → Reply → Type 0
+TellsBetween old new y = MatchOption (reach new y) (Unit {0}) (λ n. (length old ≤ n) × (n ≤ length new))
+
+-- An operation found one log and left the other: the log went on by splits and by what the reply accepts, and the reply is right
+-- in what is left and tells of that time.
+pub record Answers (c : Configuration) (old : List LogEvent) (session op : ℕ) (o : Op) (y : Reply) (new : List LogEvent) : Type 0 where
+  pub grows : Grows old new
+  pub enters : entered new ≡ entered old ++ accepted session op o y
+  pub right : Right c new session op o y
+  pub began : BeganAt (length (updates_of old)) y
+  pub tells : TellsBetween old new y
+
+-- operations one after another, from one log to another; op is the number of the first
+abbrev pub Ran : Configuration → List LogEvent → ℕ → ℕ → List Op → List Reply → List LogEvent → Type 0
+Ran c old session op [] [] new = new ≡ old
+Ran c old session op (o ∷ os) (y ∷ ys) new = (mid : List LogEvent) × (Answers c old session op o y mid × Ran c mid session (op + 1) os ys new)
+Ran c old session op [] (y ∷ ys) new = ⊥
+Ran c old session op (o ∷ os) [] new = ⊥
+
+-- a range query takes one step for each distance that its reply tells
+abbrev pub Works : ℕ → Reply → ℕ → Type 0
+Works steps (Range p rows cells distances) steps' = steps' ≡ steps + distances
+Works steps y steps' = Unit {0}

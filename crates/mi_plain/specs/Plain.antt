@@ -1,0 +1,76 @@
+-- The plain list: what contracts see of it, and how it keeps that.
+use Rattle.std.specs.Prelude.{◌≡◌, ◌+◌, ◌-◌, ◌*◌, ◌≤◌, ◌&&◌, ℕ, ℤ, Bool, IsTrue, List, cond, map, length, take, None, Option, nat_le}
+use Rattle.std.specs.List.{AllByRecursion}
+use Rattle.mi_base.specs.declared.records.LogEvent.{LogEvent}
+use Rattle.mi_base.specs.Configuration.{Configuration, IsWithinLimits, metric_space, space_of}
+use Rattle.mi_base.specs.History.{Object, live, splits_of, updates_of}
+use Rattle.mi_base.specs.Permutations.{begins, distances, permutation_of}
+use Rattle.mi_base.specs.Sorting.{SameElements}
+use Rattle.mi_board.specs.Actors.{actor_at}
+use Rattle.mi_board.specs.Boards.{BoardState}
+use Rattle.mi_key.specs.declared.entries.Entry.{Entry}
+use Rattle.mi_key.specs.declared.keys.KeyParts.{KeyParts}
+use Rattle.mi_key.specs.Clusters.{cluster_of}
+use Rattle.mi_key.specs.Keys.{key_of, parts_of}
+use Rattle.mi_tree.specs.Cells.{Grid, grid_of, leaf_of}
+
+-- how the settings' space places vectors
+abbrev pub grid_for : Configuration → Grid
+grid_for c = grid_of (space_of c) c.levels
+
+-- a map's entry as an object
+abbrev pub object_in : ℕ × Entry → Object
+object_in e = record { id = e.0; vector = e.1.vector }
+
+-- the key of an object in the leaf that it belongs to after a log
+abbrev pub leaf_key : Configuration → List LogEvent → ℕ → List ℤ → ℕ → ℕ
+leaf_key c log id vector birth = key_of (record {
+  cluster = cluster_of (length c.pivots) c.levels (leaf_of (grid_for c) log ((grid_for c).perm vector));
+  distance = (grid_for c).distance vector;
+  id = id;
+  birth = birth;
+})
+
+-- an entry has its vector's distances, and stands under the key of its leaf
+pub record IsKept (c : Configuration) (log : List LogEvent) (id : ℕ) (e : Entry) : Type 0 where
+  pub fits : IsTrue ((metric_space c).fits e.vector)
+  pub dists_are : e.dists.items ≡ distances (space_of c) e.vector
+  pub born : e.birth ≤ c.updates
+  pub key_is : e.key ≡ leaf_key c log id e.vector e.birth
+  pub lives : e.death ≡ None
+
+-- the map has the live objects, each under the key of its leaf, beside a board of a session and a splitter
+pub record IsPlain (b : BoardState) (pivots : List (List ℤ)) (levels cell : ℕ) (entries : List (ℕ × Entry)) : Type 0 where
+  pub limits : IsWithinLimits b.settings
+  pub pivots_are : pivots ≡ b.settings.pivots
+  pub levels_are : levels ≡ b.settings.levels
+  pub cell_is : cell ≡ b.settings.cell
+  pub two : length b.actors ≡ 2
+  pub same : SameElements (map object_in entries) (live (updates_of b.log))
+  pub kept : AllByRecursion (λ e. IsKept b.settings b.log e.0 e.1) entries
+
+-- neither the session nor the splitter claims a leaf
+abbrev pub NoClaims : BoardState → Type 0
+NoClaims b = ((actor_at b.actors 0).claim ≡ None) × ((actor_at b.actors 1).claim ≡ None)
+
+-- the key of the child that an entry of the split leaf belongs to
+abbrev pub child_key : List ℕ → ℕ → Entry → ℕ
+child_key split levels e = key_of (record {
+  cluster = cluster_of (length e.dists.items) levels (take (length split + 1) (permutation_of e.dists.items));
+  distance = (parts_of e.key).distance;
+  id = (parts_of e.key).id;
+  birth = (parts_of e.key).birth;
+})
+
+-- an entry of the split leaf moves under its child's key, and others stay
+abbrev pub moves : List ℕ → ℕ → Entry → Bool
+moves split levels e =
+    nat_le (length split + 1) levels && (nat_le (length split + 1) (length (permutation_of e.dists.items)) && begins split (permutation_of e.dists.items))
+
+abbrev pub rekeyed : List ℕ → ℕ → Entry → Entry
+rekeyed split levels e =
+    cond (moves split levels e) (record { key = child_key split levels e; vector = e.vector; dists = e.dists; birth = e.birth; death = e.death }) e
+
+-- how many steps the splitter can still make at most: each split is swept, and a legal log has few of them
+abbrev pub work_left : BoardState → ℕ
+work_left b = 2 * (b.settings.updates * b.settings.levels - splits_of b.log) + length b.retired

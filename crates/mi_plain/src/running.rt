@@ -1,0 +1,150 @@
+//! Runs one script alone, operation by operation, each followed by one of the splitter.
+ghost use Rattle.std.specs.Prelude.{◌≡◌, ◌<◌, ◌≤◌, ◌||◌, [], Bool, IfOk, OnErr, OnOk, length, true, false};
+ghost use Rattle.std.specs.List.{list_any};
+ghost use Rattle.mi_base.specs.Configuration.{metric_space};
+ghost use Rattle.mi_base.specs.Scripts.{AreServed, IsOpOver, IsScriptOver, IsServed};
+ghost use Rattle.mi_plain.specs.Answering.{Answers, GrowsBySplits};
+ghost use Rattle.mi_plain.specs.Outcomes.{IsFinished, IsOutcomeOf, is_memory};
+ghost use Rattle.mi_tree.specs.Legal.{Settled};
+ghost use Rattle.mi_plain.specs.Plain.{NoClaims};
+
+use crate::plain::Plain;
+use mi_base::{NoMemory, Op, Replies, Reply, Script, Settings, Steps, Transcript};
+use mi_metric::Metric;
+use mi_tree::Outcome;
+use std::alloc::Global;
+use std::marker::Brand;
+use std::sync::ledger::{Blank, Ledger};
+
+/// Makes one operation of the script; `number` is its place, from 1.
+fn answer<M: Metric, L: Ledger>(
+    alloc: Global,
+    plain: &mut Plain,
+    metric: &M,
+    number: u32,
+    op: &Op,
+    steps: &mut Steps<L>,
+) -> Reply
+    requires space { M.space metric.now ≡ metric_space plain.old.settings }
+    requires op { IsOpOver (metric_space plain.old.settings) op.now }
+    requires served { IsServed op.now }
+    requires idle { NoClaims plain.old }
+    ensures settings { plain.new.settings ≡ plain.old.settings }
+    ensures idle { NoClaims plain.new }
+    ensures answers { Answers plain.old.settings plain.old.log 0 number op.now result plain.new.log }
+{
+    match op {
+        Op::Insert { id, vector } => plain.insert(alloc, metric, number, *id, vector, steps),
+        Op::Delete { id } => plain.delete(number, *id),
+        Op::Range { radius, query } => plain.range(alloc, metric, *radius, query, steps),
+        Op::Nearest { .. } => unreachable!(),
+    }
+}
+
+/// One step of the splitter. True where memory was wanted, so that a split was given up.
+fn care(alloc: Global, plain: &mut Plain) -> bool
+    requires idle { NoClaims plain.old }
+    ensures settings { plain.new.settings ≡ plain.old.settings }
+    ensures idle { NoClaims plain.new }
+    ensures grows { GrowsBySplits plain.old.log plain.new.log }
+    ensures pivots { result ≡ true → 1 ≤ length plain.old.settings.pivots }
+{
+    plain.care(alloc).is_err()
+}
+
+fn is_short(replies: &Replies) -> bool
+    ensures { result ≡ list_any is_memory replies.now }
+{
+    replies
+        .as_slice()
+        .iter()
+        .any(|reply| matches!(reply, Reply::Memory))
+}
+
+/// What the index and the replies are at the end; `given_up` says that a split was given up.
+fn outcome(
+    alloc: Global,
+    plain: Plain,
+    replies: Replies,
+    pages: u32,
+    given_up: bool,
+) -> Result<Outcome, NoMemory>
+    ensures { IfOk result (IsFinished plain.settings plain.log replies pages given_up) }
+{
+    let short = is_short(&replies) || given_up;
+    let cells = plain.cells(alloc)?;
+    let entries = plain.len() as u64;
+    let mut transcript = Transcript::new(alloc);
+    transcript.push(replies)?;
+    Ok(Outcome {
+        replies: transcript,
+        log: plain.into_log(),
+        cells,
+        entries,
+        allotted: 1,
+        limit: pages,
+        short,
+    })
+}
+
+/// Runs the script on an empty index. After each operation the splitter makes one step, and after the last it goes on until it
+/// has nothing to do.
+fn run_counted<M: Metric, L: Ledger>(
+    alloc: Global,
+    settings: &Settings,
+    metric: &M,
+    script: &Script,
+    steps: &mut Steps<L>,
+) -> Result<Outcome, NoMemory>
+    requires space { M.space metric.now ≡ metric_space settings.now }
+    requires script { IsScriptOver (metric_space settings.now) script.now }
+    requires served { AreServed script.now }
+    ensures { IfOk result (IsOutcomeOf settings.now script.now) }
+{
+    let mut plain = Plain::open(alloc, settings)?;
+    let mut replies = Replies::with_room(alloc, script.len())?;
+    let mut given_up = false;
+    for (place, op) in script.as_slice().iter().enumerate() {
+        let number = place as u32 + 1;
+        let reply = answer(alloc, &mut plain, metric, number, op, steps);
+        replies.push(reply)?;
+        given_up = care(alloc, &mut plain) || given_up;
+    }
+    given_up = plain.settle(alloc).is_err() || given_up;
+    outcome(alloc, plain, replies, settings.pages, given_up)
+}
+
+/// Runs the script on an empty index.
+pub fn run_script<M: Metric>(
+    alloc: Global,
+    settings: &Settings,
+    metric: &M,
+    script: &Script,
+) -> Result<Outcome, NoMemory>
+    requires space { M.space metric.now ≡ metric_space settings.now }
+    requires script { IsScriptOver (metric_space settings.now) script.now }
+    requires served { AreServed script.now }
+    ensures { IfOk result (IsOutcomeOf settings.now script.now) }
+{
+    run_with::<M, Brand>(alloc, settings, metric, script, Blank::new(1))
+}
+
+/// The same with the counter that this blank opens.
+fn run_with<M: Metric, L: Ledger>(
+    alloc: Global,
+    settings: &Settings,
+    metric: &M,
+    script: &Script,
+    blank: Blank,
+) -> Result<Outcome, NoMemory>
+    requires name { blank.name ≡ L.name }
+    requires parts { blank.parts ≡ L.parts }
+    requires some { 0 < blank.parts }
+    requires space { M.space metric.now ≡ metric_space settings.now }
+    requires script { IsScriptOver (metric_space settings.now) script.now }
+    requires served { AreServed script.now }
+    ensures { IfOk result (IsOutcomeOf settings.now script.now) }
+{
+    let mut steps = Steps::<L>::new(blank);
+    run_counted(alloc, settings, metric, script, &mut steps)
+}
