@@ -6,7 +6,7 @@ use Rattle.std.specs.Ordering.{nat_cmp, is_lt, ordering_then}
 use Rattle.std.specs.declared.cmp.Ordering.{Ordering}
 use Rattle.std.specs.declared.cmp.Ordering.TheVariants.{Less, Equal, Greater}
 use Rattle.std.specs.List.{list_all, range_with_len, AllByRecursion}
-use Rattle.std.proofs.lemmas.Bool.{and_parts, eqb-true, false≢true, leb-false, leb-true}
+use Rattle.std.proofs.lemmas.Bool.{and_from, and_parts, eqb-true, false≢true, leb-false, leb-true}
 use Rattle.std.proofs.lemmas.Bool.Decides.{nat_tests}
 use Rattle.std.proofs.lemmas.List.{length-map}
 use Rattle.std.proofs.lemmas.Map.Keys.{ge_from_not_lt}
@@ -18,7 +18,6 @@ use Rattle.mi_base.specs.Sorting.{Ascends}
 use Rattle.mi_base.specs.Space.{MetricSpace, Space, IsMetric}
 use Rattle.mi_base.proofs.HistoryLemmas.{same_any}
 use Rattle.mi_base.proofs.PivotLemmas.{permutation_of-ascends, same_permutation_of}
-use Rattle.mi_base.proofs.PermutationLemmas.{and_both}
 use Rattle.mi_tree.specs.declared.outcomes.Leaf.{Leaf}
 use Rattle.mi_tree.specs.Counting.{in_hull}
 use Rattle.mi_tree.specs.Passing.{IsBound, double_pivot, hull_passes, lets_through, none_nearer, passes, range_pivot, rules_pass}
@@ -64,7 +63,7 @@ at_range p n j all h =
 
 all_from : (p : ℕ → Bool) (a n : ℕ) → ((j : ℕ) → a ≤ j → j < a + n → p j ≡ true) → list_all p (range_with_len a n) ≡ true
 all_from p a zero h = refl
-all_from p a (suc n) h = and_both (p a) (list_all p (range_with_len (a + 1) n)) (h a (omega arith) (omega arith)) (all_from p (a + 1) n (λ j lo hi. h j (omega arith) (omega arith)))
+all_from p a (suc n) h = and_from (p a) (list_all p (range_with_len (a + 1) n)) (h a (omega arith) (omega arith)) (all_from p (a + 1) n (λ j lo hi. h j (omega arith) (omega arith)))
 
 all_range : (p : ℕ → Bool) (n : ℕ) → ((j : ℕ) → j < n → p j ≡ true) → list_all p (range_with_len 0 n) ≡ true
 all_range p n h = all_from p 0 n (λ j lo hi. h j (omega arith))
@@ -85,12 +84,12 @@ rules_grow dq (p ∷ ps) hull r s le h =
     let twice : (a b : ℕ) → nat_le a (b + 2 * r) ≡ true → nat_le a (b + 2 * s) ≡ true = λ a b k. (let m : a ≤ b + 2 * r = leb-true a (b + 2 * r) k in grind (arith, nat_tests)) in
     let d : ℕ → ℕ = λ l. slice_index dq (slice_index prefix l) in
     let test : ℕ → ℕ → ℕ → Bool = λ t l j. has j (take l prefix) || nat_le (d l) (slice_index dq j + 2 * t) in
-    and_both _ _
+    and_from _ _
     (all_range (λ l. none_nearer dq s (take l prefix) (d l)) (length prefix)
     (λ l kl. all_range (test s l) n
     (λ j kj. or_weaker (has j (take l prefix)) (nat_le (d l) (slice_index dq j + 2 * r)) (nat_le (d l) (slice_index dq j + 2 * s)) (twice (d l) (slice_index dq j))
     (at_range (test r l) n j (at_range (λ m. none_nearer dq r (take m prefix) (d m)) (length prefix) l both.0 kl) kj))))
-    (and_both _ _ (wider hull.0 (slice_index dq p) ends.0) (let m : slice_index dq p ≤ hull.1 + r = leb-true _ _ ends.1 in grind (arith, nat_tests)))
+    (and_from _ _ (wider hull.0 (slice_index dq p) ends.0) (let m : slice_index dq p ≤ hull.1 + r = leb-true _ _ ends.1 in grind (arith, nat_tests)))
 
 hull_grows : (dq prefix : List ℕ) (hull : Option (ℕ × ℕ)) (r s : ℕ) → r ≤ s → hull_passes dq r prefix hull ≡ true → hull_passes dq s prefix hull ≡ true
 hull_grows dq prefix None r s le h = absurd (false≢true h)
@@ -121,7 +120,8 @@ all_has P (x ∷ xs) j all h =
     let go : (b : Bool) → Q b = elim [ true ↦ λ e k. subst P (eqb-true x j e) all.0 | false ↦ λ e k. all_has P xs j all.1 k ] in
     go (nat_eq x j) refl h
 
-not_less : (o p : Ordering) → is_lt (ordering_then o p) ≡ false → is_lt o ≡ false
+-- what is not less by two orders is not less by the first
+pub not_less : (o p : Ordering) → is_lt (ordering_then o p) ≡ false → is_lt o ≡ false
 not_less Less p h = h
 not_less Equal p h = refl
 not_less Greater p h = refl
@@ -192,7 +192,7 @@ rules_let dq dists (p ∷ ps) r hull e f b i =
     let below : slice_index dq p ≤ hull.1 + r = omega (arith, (near p).0) in
     let met_low : nat_le hull.0 (slice_index dq p + r) ≡ true = grind (arith, nat_tests) in
     let met_high : nat_le (slice_index dq p) (hull.1 + r) ≡ true = grind (arith, nat_tests) in
-    and_both _ _
+    and_from _ _
     (all_range (λ l. none_nearer dq r (take l prefix) (d l)) (length prefix)
     (λ l kl. all_range (λ j. has j (take l prefix) || nat_le (d l) (slice_index dq j + 2 * r)) (length dq)
     (λ j kj. unless (has j (take l prefix)) (nat_le (d l) (slice_index dq j + 2 * r))
@@ -201,7 +201,7 @@ rules_let dq dists (p ∷ ps) r hull e f b i =
     no_nearer dists prefix (permutation_of dists) l j (permutation_of-ascends dists) b kl (has_pivot dists j (omega arith)) out in
     let le : d l ≤ slice_index dq j + 2 * r = omega (arith, (near (slice_index prefix l)).0, (near j).1) in
     (let t : nat_le (d l) (slice_index dq j + 2 * r) ≡ true = grind (arith, nat_tests) in t)))))
-    (and_both _ _ met_low met_high)
+    (and_from _ _ met_low met_high)
 
 hull_lets : (dq dists prefix : List ℕ) (r : ℕ) (hull : Option (ℕ × ℕ)) → length dq ≡ length dists → lets_through r dq dists ≡ true → begins prefix (permutation_of dists) ≡ true
     → in_hull (key_distance dists) hull ≡ true → hull_passes dq r prefix hull ≡ true
@@ -223,7 +223,7 @@ near_all m is q o fq fo r near (p ∷ ps) fps =
     let turned : m.d o q ≡ m.d q o = is.symmetric o q fo fq in
     let close : abs_diff (m.d q p) (m.d o p) ≤ r = omega arith in
     let here : nat_le (abs_diff (m.d q p) (m.d o p)) r ≡ true = grind (arith, nat_tests) in
-    and_both _ _ here (near_all m is q o fq fo r near ps fps.1)
+    and_from _ _ here (near_all m is q o fq fo r near ps fps.1)
 
 no_pivot : (dists : List ℕ) → length dists ≡ 0 → key_distance dists ≡ 0
 no_pivot [] e = refl
@@ -237,7 +237,7 @@ filter_spans dq dists r levels [] parts e f b empty small c d =
     let same : nat_eq parts.cluster (cluster_of (length dq) levels []) ≡ true = grind (arith, nat_tests) in
     let least : nat_le 0 parts.distance ≡ true = grind (arith, nat_tests) in
     let greatest : nat_le parts.distance 0 ≡ true = grind (arith, nat_tests) in
-    and_both _ _ same (and_both _ _ least greatest)
+    and_from _ _ same (and_from _ _ least greatest)
 filter_spans dq dists r levels (p ∷ ps) parts e f b empty small c d =
     let near = near_at r dq dists e f in
     let first : key_distance dists ≡ slice_index dists p = first_of dists p ps (permutation_of dists) b in
@@ -246,7 +246,7 @@ filter_spans dq dists r levels (p ∷ ps) parts e f b empty small c d =
     let high : parts.distance ≤ cut (slice_index dq p + r) = omega (arith, (near p).1) in
     let least : nat_le (cut (slice_index dq p - r)) parts.distance ≡ true = grind (arith, nat_tests) in
     let greatest : nat_le parts.distance (cut (slice_index dq p + r)) ≡ true = grind (arith, nat_tests) in
-    and_both _ _ same (and_both _ _ least greatest)
+    and_from _ _ same (and_from _ _ least greatest)
 
 same_lengths : (space : Space) (v w : List ℤ) → length (distances space v) ≡ length (distances space w)
 same_lengths space v w = length-map space.pivots (λ p. space.metric.d v p) ∙ sym (length-map space.pivots (λ p. space.metric.d w p))
