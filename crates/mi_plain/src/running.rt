@@ -128,14 +128,7 @@ fn run_counted<M: Metric, L: Ledger>(
         given_up = care(alloc, &mut plain) || given_up;
     }
     given_up = settle(alloc, &mut plain) || given_up;
-    outcome(
-        alloc,
-        plain,
-        replies,
-        transcript,
-        settings.pages,
-        given_up,
-    )
+    outcome(alloc, plain, replies, transcript, settings.pages, given_up)
 }
 
 /// Runs the script on an empty index.
