@@ -202,6 +202,7 @@ impl Plain {
         ensures answers { (op : ℕ) → Answers self.now.settings self.now.log SESSION op (Op.Range radius query.now) result self.now.log }
         ensures work { Works steps.old result steps.new }
     {
+        let at = self.end();
         let dists = self.pivots.measure(metric, query, steps);
         let mut work = RangeWork::new(alloc, &dists, radius);
         for (_, entry) in self.entries.iter() {
@@ -210,7 +211,6 @@ impl Plain {
             };
             work.take(entry, metric, query, steps);
         }
-        let at = self.end();
         work.finish(at, self.opened(&dists, radius))
     }
 
