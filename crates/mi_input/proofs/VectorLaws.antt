@@ -1,23 +1,19 @@
 -- Fields within the bounds of a metric make vectors that fit it.
-use Rattle.std.proofs.Common.{◌≡◌, ℕ, ℤ, pos, negsuc, neg_ℤ, ◌≤ℤ◌, ◌+◌, ◌-◌, ◌^◌, ◌==◌, ◌&&◌, ◌≤◌, ◌<◌, true, IsTrue, List, [], ◌∷◌, length, drop, Option, Some, None, Result, Ok, Err, int_le, unsigned_abs, inl, inr, refl, ◌∙◌, arith, lit≤, length-drop}
-use Rattle.std.specs.List.{AllByRecursion}
-use Rattle.std.proofs.lemmas.Bool.{eq-eqb, eqb-true, lt-ltb}
+use Rattle.std.proofs.Common.{◌≡◌, ℕ, ℤ, pos, negsuc, neg_ℤ, ◌≤ℤ◌, ◌-◌, ◌==◌, ◌&&◌, ◌≤◌, ◌<◌, true, IsTrue, List, [], ◌∷◌, length, Option, Some, None, Result, Ok, Err, int_le, unsigned_abs, inl, inr, refl, ◌∙◌, arith}
+use Rattle.std.proofs.lemmas.Bool.{eq-eqb, lt-ltb}
 use Rattle.std.proofs.lemmas.Int.{ints}
-use Rattle.mi_base.specs.declared.records.Op.{Op}
-use Rattle.mi_base.specs.declared.records.Op.TheVariants.{Insert, Delete, Range}
 use Rattle.mi_base.specs.declared.settings.MetricKind.{MetricKind}
 use Rattle.mi_base.specs.declared.settings.MetricKind.TheVariants.{L1, Max, Hamming, Table}
-use Rattle.mi_base.specs.Configuration.{Configuration, HasItsRows, IsWithinLimits, metric_space}
-use Rattle.mi_base.specs.Scripts.{IsOpOver, IsScriptOver}
+use Rattle.mi_base.specs.Configuration.{HasItsRows}
 use Rattle.mi_base.specs.Space.{has_dims, is_row, metric_of}
 use Rattle.mi_base.specs.Vectors.{all_coordinates}
 use Rattle.mi_input.specs.declared.faults.Reason.{Reason}
-use Rattle.mi_input.specs.declared.faults.Reason.TheVariants.{Fields, Range as OutOfRange}
-use Rattle.mi_input.specs.Faults.{◌>>=◌, at_record}
+use Rattle.mi_input.specs.declared.faults.Reason.TheVariants.{Range as OutOfRange}
+use Rattle.mi_input.specs.Faults.{◌>>=◌}
 use Rattle.mi_input.specs.Numbers.{bounded, count_in, number_in, whole_in}
-use Rattle.mi_input.specs.Records.{each, field_in}
+use Rattle.mi_input.specs.Records.{each}
 use Rattle.mi_input.specs.Vectors.{highest, lowest}
-use Rattle.mi_input.proofs.CaseLemmas.{and_true, at_record_ok, bind_ok, chosen, ok_same}
+use Rattle.mi_input.proofs.CaseLemmas.{and_true, bind_ok, chosen, ok_same}
 use Rattle.mi_input.proofs.VectorLemmas.{between}
 
 int_trans : (a b c : ℤ) → a ≤ℤ b → b ≤ℤ c → a ≤ℤ c
