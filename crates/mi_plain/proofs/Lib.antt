@@ -1,2 +1,4 @@
 pub mod GrowingLemmas
+pub mod OpenedLemmas
+pub mod RangeLemmas
 pub mod RunningLemmas

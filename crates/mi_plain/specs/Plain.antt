@@ -22,14 +22,17 @@ grid_for c = grid_of (space_of c) c.levels
 abbrev pub object_in : ℕ × Entry → Object
 object_in e = record { id = e.0; vector = e.1.vector }
 
--- the key of an object in the leaf that it belongs to after a log
-abbrev pub leaf_key : Configuration → List LogEvent → ℕ → List ℤ → ℕ → ℕ
-leaf_key c log id vector birth = key_of (record {
+-- the parts of an object's key in the leaf that it belongs to after a log
+abbrev pub leaf_parts : Configuration → List LogEvent → ℕ → List ℤ → ℕ → KeyParts
+leaf_parts c log id vector birth = record {
   cluster = cluster_of (length c.pivots) c.levels (leaf_of (grid_for c) log ((grid_for c).perm vector));
   distance = (grid_for c).distance vector;
   id = id;
   birth = birth;
-})
+}
+
+abbrev pub leaf_key : Configuration → List LogEvent → ℕ → List ℤ → ℕ → ℕ
+leaf_key c log id vector birth = key_of (leaf_parts c log id vector birth)
 
 -- an entry has its vector's distances, and stands under the key of its leaf
 pub record IsKept (c : Configuration) (log : List LogEvent) (id : ℕ) (e : Entry) : Type 0 where
@@ -37,6 +40,7 @@ pub record IsKept (c : Configuration) (log : List LogEvent) (id : ℕ) (e : Entr
   pub dists_are : e.dists.items ≡ distances (space_of c) e.vector
   pub born : e.birth ≤ c.updates
   pub key_is : e.key ≡ leaf_key c log id e.vector e.birth
+  pub parts_are : parts_of e.key ≡ leaf_parts c log id e.vector e.birth
   pub lives : e.death ≡ None
 
 -- the map has the live objects, each under the key of its leaf, beside a board of a session and a splitter
