@@ -36,6 +36,8 @@ pub record IsKept (c : Configuration) (log : List LogEvent) (id : ℕ) (e : Entr
   pub dists_are : e.dists.items ≡ distances (space_of c) e.vector
   pub born : e.birth ≤ c.updates
   pub key_is : e.key ≡ leaf_key c log id e.vector e.birth
+  pub named : (parts_of e.key).id ≡ id
+  pub distance_is : (parts_of e.key).distance ≡ (grid_for c).distance e.vector
   pub lives : e.death ≡ None
 
 -- the map has the live objects, each under the key of its leaf, beside a board of a session and a splitter
