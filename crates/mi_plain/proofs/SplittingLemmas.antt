@@ -19,7 +19,7 @@ use Rattle.mi_key.specs.declared.keys.KeyParts.{KeyParts}
 use Rattle.mi_key.specs.Clusters.{cluster_of}
 use Rattle.mi_key.specs.Keys.{FitKey, key_of, parts_of}
 use Rattle.mi_key.proofs.ClusterLemmas.{cluster-small}
-use Rattle.mi_key.proofs.KeyLemmas.{parts_of-key_of}
+use Rattle.mi_key.proofs.KeyLemmas.{made_of, parts_of-key_of}
 use Rattle.mi_plain.specs.Plain.{IsKept, IsPlain, child_key, grid_for, leaf_key, moves, object_in, rekeyed}
 use Rattle.mi_plain.proofs.KeyLemmas.{all_below-permutation, distance_fits, id_fits}
 use Rattle.mi_tree.specs.Cells.{Grid, IsGrid, AllMaySplit, depth, leaf_of}
@@ -39,6 +39,9 @@ leaf_parts c log id v birth = record {
   id = id;
   birth = birth;
 }
+
+same_made : (c d i b c' d' i' b' : ℕ) → c ≡ c' → d ≡ d' → i ≡ i' → b ≡ b' → made_of c d i b ≡ made_of c' d' i' b'
+same_made c d i b c' d' i' b' p q r s = cc
 
 -- an entry under its child's key
 abbrev moved : List ℕ → ℕ → Entry → Entry
@@ -92,3 +95,117 @@ module _ (c : Configuration) (limits : IsWithinLimits c) where
         let same : depth g log perm + 0 ≡ depth g log perm = omega arith in
         let deep : depth g after perm ≡ depth g log perm = deeper g config_grid log (all_may c log legal) p (record { id = id; vector = v }) (wanted c log p may).0 ∙ (rw b same) in
         ap (λ (n : ℕ). take n perm) deep
+
+    -- an entry of another leaf doesn't move
+    moves_not : (levels : ℕ) (e : Entry) → begins p (permutation_of e.dists.items) ≡ false → rekeyed p levels e ≡ e
+    moves_not levels e f =
+        let P : Bool → Bool → Type 0 = λ a b. cond (a && (b && false)) (moved p levels e) e ≡ e in
+        let none : (a b : Bool) → P a b = λ a b. (elim a as (λ x. P x b) [ true ↦ (elim b as (P true) [ true ↦ refl | false ↦ refl ]) | false ↦ refl ]) in
+        rw f (none (nat_le (length p + 1) levels) (nat_le (length p + 1) (length (permutation_of e.dists.items))))
+
+    -- an entry of the leaf does
+    moves_so : (levels : ℕ) (e : Entry) → begins p (permutation_of e.dists.items) ≡ true → length p + 1 ≤ levels → length p + 1 ≤ length (permutation_of e.dists.items) → rekeyed p levels e ≡ moved p levels e
+    moves_so levels e t few within =
+        let a : nat_le (length p + 1) levels ≡ true = grind (arith, nat_tests) in
+        let b : nat_le (length p + 1) (length (permutation_of e.dists.items)) ≡ true = grind (arith, nat_tests) in
+        rw (a, b, t) refl
+
+    -- each entry stands under the key of its leaf after the split
+    kept_rekeyed : (id : ℕ) (e : Entry) → IsKept c log id e → IsKept c after id (rekeyed p c.levels e)
+    kept_rekeyed id e k =
+        let g = grid_for c in
+        let v = e.vector in
+        let perm_is : permutation_of e.dists.items ≡ g.perm v = ap permutation_of k.dists_are in
+        let low : id < 2 ^ 40 = subst (λ (n : ℕ). n < 2 ^ 40) k.named (id_fits e.key) in
+        let near : g.distance v < 2 ^ 27 = subst (λ (n : ℕ). n < 2 ^ 27) k.distance_is (distance_fits e.key) in
+        let Keeps : Entry → Type 0 = λ x. IsKept c after id x in
+        let P : Bool → Type 0 = λ b. begins p (g.perm v) ≡ b → Keeps (rekeyed p c.levels e) in
+        (elim (begins p (g.perm v)) as P [
+          | true ↦ λ t.
+              let mine : begins p (permutation_of e.dists.items) ≡ true = ap (begins p) perm_is ∙ t in
+              let few : length p + 1 ≤ c.levels = (let w = (wanted c log p may).1.0 in omega arith) in
+              let long : length (permutation_of e.dists.items) ≡ length c.pivots = ap length perm_is ∙ (config_grid.perms v).1 in
+              let deep : c.levels ≤ length c.pivots = config_grid.levels in
+              let is = moves_so c.levels e mine few (omega arith) in
+              let size : length e.dists.items ≡ length c.pivots = ap length k.dists_are ∙ length-map c.pivots _ in
+              let parts = parts_kept log id e k in
+              let cluster_is : cluster_of (length e.dists.items) c.levels (take (length p + 1) (permutation_of e.dists.items)) ≡ cluster_of (length c.pivots) c.levels (leaf_of g after (g.perm v)) =
+              ap (λ (n : ℕ). cluster_of n c.levels (take (length p + 1) (permutation_of e.dists.items))) size ∙ ap (λ (q : List ℕ). cluster_of (length c.pivots) c.levels q) (ap (λ (q : List ℕ). take (length p + 1) q) perm_is ∙ sym (leaf_moved id v t)) in
+              let made : KeyParts = record { cluster = cluster_of (length e.dists.items) c.levels (take (length p + 1) (permutation_of e.dists.items)); distance = (parts_of e.key).distance; id = (parts_of e.key).id; birth = (parts_of e.key).birth } in
+              let made_is : made ≡ leaf_parts c after id v e.birth = same_made _ _ _ _ _ _ _ _ cluster_is k.distance_is k.named (ap (λ (q : KeyParts). q.birth) parts) in
+              let key_is : child_key p c.levels e ≡ leaf_key c after id v e.birth = ap key_of made_is in
+              let back : parts_of (child_key p c.levels e) ≡ leaf_parts c after id v e.birth = ap parts_of key_is ∙ parts_of-key_of (leaf_parts c after id v e.birth) (fit_leaf after id v e.birth low near k.born) in
+              subst Keeps (sym is) (record {
+                fits = k.fits;
+                dists_are = k.dists_are;
+                born = k.born;
+                key_is = key_is;
+                named = ap (λ (q : KeyParts). q.id) back;
+                distance_is = ap (λ (q : KeyParts). q.distance) back;
+                lives = k.lives;
+              })
+          | false ↦ λ f.
+              let is = moves_not c.levels e (ap (begins p) perm_is ∙ f) in
+              subst Keeps (sym is) (record {
+                fits = k.fits;
+                dists_are = k.dists_are;
+                born = k.born;
+                key_is = k.key_is ∙ ap (λ (q : List ℕ). key_of (record { cluster = cluster_of (length c.pivots) c.levels q; distance = g.distance v; id = id; birth = e.birth })) (sym (leaf_stays id v f));
+                named = k.named;
+                distance_is = k.distance_is;
+                lives = k.lives;
+              })
+        ]) refl
+
+    all_rekeyed : (entries : List (ℕ × Entry)) → AllByRecursion (λ e. IsKept c log e.0 e.1) entries → AllByRecursion {X = ℕ × Entry} (λ e. IsKept c after e.0 e.1) (map (λ e. (e.0, rekeyed p c.levels e.1)) entries)
+    all_rekeyed [] h = tt
+    all_rekeyed (e ∷ es) h = (kept_rekeyed e.0 e.1 h.0, all_rekeyed es h.1)
+
+-- a new key is no new vector
+vector_stays : (p : List ℕ) (levels : ℕ) (e : Entry) → (rekeyed p levels e).vector ≡ e.vector
+vector_stays p levels e =
+    let P : Bool → Type 0 = λ b. (cond b (moved p levels e) e).vector ≡ e.vector in
+    elim (moves p levels e) as P [ true ↦ refl | false ↦ refl ]
+
+objects_stay : (p : List ℕ) (levels : ℕ) (entries : List (ℕ × Entry)) → map object_in (map (λ e. (e.0, rekeyed p levels e.1)) entries) ≡ map object_in entries
+objects_stay p levels [] = refl
+objects_stay p levels (e ∷ es) =
+    let v = vector_stays p levels e.1 in
+    let rest = objects_stay p levels es in
+    let first : object_in (e.0, rekeyed p levels e.1) ≡ object_in e = ap (λ (w : List ℤ). record { id = e.0; vector = w }) v in
+    cc
+
+module _ (b : BoardState) (pivots : List (List ℤ)) (levels cell : ℕ) (entries : List (ℕ × Entry)) (is : IsPlain b pivots levels cell entries) where
+  -- a claim that ends
+  pub plain_released : (actor : ℕ) → IsPlain (with_actor released actor b) pivots levels cell entries
+  plain_released actor = record {
+    limits = is.limits;
+    pivots_are = is.pivots_are;
+    levels_are = is.levels_are;
+    cell_is = is.cell_is;
+    two = length-change released actor b.actors ∙ is.two;
+    same = is.same;
+    kept = is.kept;
+  }
+
+  -- a leaf that was split
+  pub plain_split : (actor : ℕ) (p : List ℕ) → LegalLog b.settings b.log → MayFollow b.settings b.log (Split p) → IsPlain (with_split p actor b) pivots levels cell (map (λ e. (e.0, rekeyed p levels e.1)) entries)
+  plain_split actor p legal may =
+      let kept = all_rekeyed b.settings is.limits b.log legal p may entries is.kept in
+      record {
+        limits = is.limits;
+        pivots_are = is.pivots_are;
+        levels_are = is.levels_are;
+        cell_is = is.cell_is;
+        two = length-change released actor b.actors ∙ is.two;
+        same = subst (λ (xs : List Object). SameElements xs (live (updates_of (b.log ++ Split p ∷ [])))) (sym (objects_stay p levels entries))
+            (subst (λ (xs : List Object). SameElements (map object_in entries) xs) (sym (ap live (updates_of_split b.log p))) is.same);
+        kept = subst (λ (n : ℕ). AllByRecursion (λ (e : ℕ × Entry). IsKept b.settings (b.log ++ Split p ∷ []) e.0 e.1) (map (λ (e : ℕ × Entry). (e.0, rekeyed p n e.1)) entries)) (sym is.levels_are) kept;
+      }
+
+  -- there are pivots where a leaf is to be split
+  pub some_pivots : (p : List ℕ) → MayFollow b.settings b.log (Split p) → 1 ≤ length b.settings.pivots
+  some_pivots p may =
+      let few = (wanted b.settings b.log p may).1.0 in
+      let deep = (depth_is (length b.settings.pivots) b.settings.levels is.limits.levels).1 in
+      omega arith
