@@ -17,7 +17,6 @@ use Rattle.mi_base.proofs.HistoryLemmas.{few_updates, sorted-hits}
 use Rattle.mi_base.proofs.LiveLemmas.{few_live}
 use Rattle.mi_base.proofs.SortingLemmas.{same_filter, same_length}
 use Rattle.mi_key.specs.declared.entries.Entry.{Entry}
-use Rattle.mi_key.specs.declared.keys.KeyParts.{KeyParts}
 use Rattle.mi_key.specs.Entries.{Offering, object_of, offering_of}
 use Rattle.mi_key.specs.Keys.{parts_of}
 use Rattle.mi_plain.specs.Plain.{IsKept, object_in}
@@ -63,7 +62,7 @@ module _ (c : Configuration) (log : List LogEvent) where
   objects_offered : (es : List (ℕ × Entry)) → AllByRecursion (λ e. IsKept c log e.0 e.1) es → map (λ o. o.object) (offerings es) ≡ map object_in es
   objects_offered [] h = refl
   objects_offered (e ∷ es) h =
-      let same : (parts_of e.1.key).id ≡ e.0 = ap (λ (p : KeyParts). p.id) h.0.parts_are in
+      let same : (parts_of e.1.key).id ≡ e.0 = h.0.named in
       let one : object_of e.1 ≡ object_in e = ap (λ (n : ℕ). record { id = n; vector = e.1.vector }) same in
       ap (λ (o : Object). o ∷ map (λ (x : Offering). x.object) (offerings es)) one ∙ ap (λ os. object_in e ∷ os) (objects_offered es h.1)
 

@@ -1,5 +1,5 @@
 -- The plain list: what contracts see of it, and how it keeps that.
-use Rattle.std.specs.Prelude.{◌≡◌, ◌+◌, ◌-◌, ◌*◌, ◌≤◌, ◌&&◌, ℕ, ℤ, Bool, IsTrue, List, cond, map, length, take, None, Option, nat_le}
+use Rattle.std.specs.Prelude.{◌≡◌, ◌+◌, ◌-◌, ◌*◌, ◌≤◌, ◌&&◌, ℕ, ℤ, Bool, IsTrue, List, cond, map, length, take, None, nat_le}
 use Rattle.std.specs.List.{AllByRecursion}
 use Rattle.mi_base.specs.declared.records.LogEvent.{LogEvent}
 use Rattle.mi_base.specs.Configuration.{Configuration, IsWithinLimits, metric_space, space_of}
@@ -9,7 +9,6 @@ use Rattle.mi_base.specs.Sorting.{SameElements}
 use Rattle.mi_board.specs.Actors.{actor_at}
 use Rattle.mi_board.specs.Boards.{BoardState}
 use Rattle.mi_key.specs.declared.entries.Entry.{Entry}
-use Rattle.mi_key.specs.declared.keys.KeyParts.{KeyParts}
 use Rattle.mi_key.specs.Clusters.{cluster_of}
 use Rattle.mi_key.specs.Keys.{key_of, parts_of}
 use Rattle.mi_tree.specs.Cells.{Grid, grid_of, leaf_of}
@@ -22,17 +21,14 @@ grid_for c = grid_of (space_of c) c.levels
 abbrev pub object_in : ℕ × Entry → Object
 object_in e = record { id = e.0; vector = e.1.vector }
 
--- the parts of an object's key in the leaf that it belongs to after a log
-abbrev pub leaf_parts : Configuration → List LogEvent → ℕ → List ℤ → ℕ → KeyParts
-leaf_parts c log id vector birth = record {
+-- the key of an object in the leaf that it belongs to after a log
+abbrev pub leaf_key : Configuration → List LogEvent → ℕ → List ℤ → ℕ → ℕ
+leaf_key c log id vector birth = key_of (record {
   cluster = cluster_of (length c.pivots) c.levels (leaf_of (grid_for c) log ((grid_for c).perm vector));
   distance = (grid_for c).distance vector;
   id = id;
   birth = birth;
-}
-
-abbrev pub leaf_key : Configuration → List LogEvent → ℕ → List ℤ → ℕ → ℕ
-leaf_key c log id vector birth = key_of (leaf_parts c log id vector birth)
+})
 
 -- an entry has its vector's distances, and stands under the key of its leaf
 pub record IsKept (c : Configuration) (log : List LogEvent) (id : ℕ) (e : Entry) : Type 0 where
@@ -40,7 +36,8 @@ pub record IsKept (c : Configuration) (log : List LogEvent) (id : ℕ) (e : Entr
   pub dists_are : e.dists.items ≡ distances (space_of c) e.vector
   pub born : e.birth ≤ c.updates
   pub key_is : e.key ≡ leaf_key c log id e.vector e.birth
-  pub parts_are : parts_of e.key ≡ leaf_parts c log id e.vector e.birth
+  pub named : (parts_of e.key).id ≡ id
+  pub distance_is : (parts_of e.key).distance ≡ (grid_for c).distance e.vector
   pub lives : e.death ≡ None
 
 -- the map has the live objects, each under the key of its leaf, beside a board of a session and a splitter

@@ -284,6 +284,8 @@ impl Plain {
         ensures err { OnErr result (self.new ≡ with_actor released actor self.old) }
         ensures pivots { 1 ≤ length self.old.settings.pivots }
     {
+        // The end of the log tells that it is legal.
+        let _ = self.end();
         let Ok(objects) = self.gather(alloc, &leaf.prefix) else {
             self.board.release_leaf(actor);
             return Err(NoMemory);
