@@ -1,3 +1,5 @@
 pub mod KeyLemmas
 pub mod GatheringLemmas
 pub mod SplittingLemmas
+pub mod SplitGrowthLemmas
+pub mod CareLemmas
