@@ -5,3 +5,5 @@ pub mod OpenedLemmas
 pub mod RangeLemmas
 pub mod RunningLemmas
 pub mod SplittingLemmas
+pub mod SplitGrowthLemmas
+pub mod CareLemmas
