@@ -7,6 +7,7 @@ use Rattle.std.specs.List.{sum_by, filter, AllByRecursion}
 use Rattle.std.specs.Ordering.{nat_cmp, is_eq, match_ordering}
 use Rattle.std.specs.Map.{lookup, remove_entry}
 use Rattle.std.specs.BTreeMap.{is_at, insert_entry}
+use Rattle.std.proofs.lemmas.Bool.{eqb-true}
 use Rattle.std.proofs.lemmas.Bool.Decides.{nat_tests}
 use Rattle.std.proofs.lemmas.List.Sums.{sum_by-cons}
 use Rattle.std.proofs.lemmas.List.{length-map}
@@ -109,3 +110,41 @@ all_removed P t [] all = tt
 all_removed P t (e ∷ es) all =
     let Q : Bool → Type 0 = λ b. AllByRecursion P (cond b es (e ∷ remove_entry t es)) in
     elim (t e.0) as Q [ true ↦ all.1 | false ↦ (all.0, all_removed P t es all.1) ]
+
+-- the entry that a look-up finds is the identifier's
+pub all_looked_up : (P : ℕ × Entry → Type 0) (id : ℕ) (v : Entry) (es : Entries) → lookup (is_at (nat_cmp id)) es ≡ Some v → AllByRecursion P es → P (id, v)
+all_looked_up P id v [] h all = cc
+all_looked_up P id v (e ∷ es) h all =
+    let Q : Bool → Type 0 = λ b. (e.0 == id) ≡ b → cond b (Some e.1) (lookup (is_at (nat_cmp id)) es) ≡ Some v → P (id, v) in
+    let at : is_at (nat_cmp id) e.0 ≡ (e.0 == id) = is_eq-nat_cmp id e.0 in
+    (elim (e.0 == id) as Q [
+      | true ↦ λ q k.
+          let here : e.0 ≡ id = eqb-true e.0 id q in
+          let there : e.1 ≡ v = cc in
+          subst (λ (w : Entry). P (id, w)) there (subst (λ (n : ℕ). P (n, e.1)) here all.0)
+      | false ↦ λ q k. all_looked_up P id v es k all.1
+    ]) refl (sym (ap (λ b. cond b (Some e.1) (lookup (is_at (nat_cmp id)) es)) at) ∙ h)
+
+-- a removed key is one object less
+remove_sum : (f : Object → ℕ) (id : ℕ) (v : Entry) (es : Entries) → lookup (is_at (nat_cmp id)) es ≡ Some v → sum_by f (map object_in es) ≡ f (object_in (id, v)) + sum_by f (map object_in (remove_entry (is_at (nat_cmp id)) es))
+remove_sum f id v [] h = cc
+remove_sum f id v (e ∷ es) h =
+    let Q : Bool → Type 0 = λ b. (e.0 == id) ≡ b → cond b (Some e.1) (lookup (is_at (nat_cmp id)) es) ≡ Some v
+    → sum_by f (map object_in (e ∷ es)) ≡ f (object_in (id, v)) + sum_by f (map object_in (cond b es (e ∷ remove_entry (is_at (nat_cmp id)) es))) in
+    let at : is_at (nat_cmp id) e.0 ≡ (e.0 == id) = is_eq-nat_cmp id e.0 in
+    let all : (b : Bool) → (e.0 == id) ≡ b → cond b (Some e.1) (lookup (is_at (nat_cmp id)) es) ≡ Some v
+    → sum_by f (map object_in (e ∷ es)) ≡ f (object_in (id, v)) + sum_by f (map object_in (cond b es (e ∷ remove_entry (is_at (nat_cmp id)) es))) = λ b. (elim b as Q [
+      | true ↦ λ q k.
+          let here : e.0 ≡ id = eqb-true e.0 id q in
+          let there : e.1 ≡ v = cc in
+          sum_by-cons f (object_in e) (map object_in es) ∙ ap (λ (n : ℕ). f (object_in (n, e.1)) + sum_by f (map object_in es)) here ∙ ap (λ (w : Entry). f (object_in (id, w)) + sum_by f (map object_in es)) there
+      | false ↦ λ q k. omega (arith, sum_by-cons f (object_in e) (map object_in es), sum_by-cons f (object_in e) (map object_in (remove_entry (is_at (nat_cmp id)) es)), remove_sum f id v es k)
+    ]) in
+    all (is_at (nat_cmp id) e.0) (sym at) h
+
+-- the object of an entry is the one of its identifier
+pub one_entry : (id : ℕ) (v : Entry) (es : Entries) (objects : List Object) → lookup (is_at (nat_cmp id)) es ≡ Some v → lookup (is_at (nat_cmp id)) (remove_entry (is_at (nat_cmp id)) es) ≡ None
+    → SameElements (map object_in es) objects → SameElements objects (object_in (id, v) ∷ filter (λ o. not (o.id == id)) objects)
+one_entry id v es objects at gone same =
+    let others : SameElements (map object_in (remove_entry (is_at (nat_cmp id)) es)) (filter (λ o. not (o.id == id)) objects) = same_removed id es objects gone same in
+    record { sums = λ f. sym (same.sums f) ∙ remove_sum f id v es at ∙ ap (λ n. f (object_in (id, v)) + n) (others.sums f) ∙ sym (sum_by-cons f (object_in (id, v)) (filter (λ (o : Object). not (o.id == id)) objects)) }

@@ -1,5 +1,5 @@
 -- The list and its board after an update, and after a claim or a reservation.
-use Rattle.std.proofs.Common.{◌≡◌, ℕ, ℤ, ◌+◌, List, [], ◌∷◌, ◌++◌, map, length, Bool, true, false, take, min, refl, sym, ap, ◌∙◌, subst, arith, None, Err}
+use Rattle.std.proofs.Common.{◌≡◌, ℕ, ℤ, zero, suc, IsTrue, ◌<◌, ◌+◌, List, [], ◌∷◌, ◌++◌, map, length, Bool, true, false, take, min, refl, sym, ap, ◌∙◌, subst, arith, None, Err}
 use Rattle.std.specs.List.{AllByRecursion}
 use Rattle.std.specs.Map.{lookup, remove_entry}
 use Rattle.std.specs.BTreeMap.{is_at, insert_entry}
@@ -16,9 +16,10 @@ use Rattle.mi_base.specs.History.{Object, is_live, live, live_after, updates_of}
 use Rattle.mi_base.specs.Sorting.{SameElements}
 use Rattle.mi_base.proofs.HistoryLemmas.{same_any}
 use Rattle.mi_board.specs.declared.actors.ActorState.{ActorState}
-use Rattle.mi_board.specs.Actors.{change, released, reserving, claiming}
-use Rattle.mi_board.specs.Boards.{BoardState, Commits, HasRoom, with_actor, with_event}
+use Rattle.mi_board.specs.Actors.{actor_at, change, claims_leaf_of, released, reserving, claiming}
+use Rattle.mi_board.specs.Boards.{BoardState, Commits, HasRoom, MayCommit, with_actor, with_event}
 use Rattle.mi_board.proofs.ActorLemmas.{length-change}
+use Rattle.mi_board.proofs.FoundLemmas.{kept_begins}
 use Rattle.mi_board.proofs.StepLemmas.{state}
 use Rattle.mi_key.specs.declared.entries.Entry.{Entry}
 use Rattle.mi_key.specs.declared.keys.KeyParts.{KeyParts}
@@ -26,6 +27,9 @@ use Rattle.mi_key.specs.Clusters.{cluster_of}
 use Rattle.mi_key.specs.Keys.{key_of}
 use Rattle.mi_tree.specs.declared.answers.CommitRefusal.{CommitRefusal}
 use Rattle.mi_tree.specs.declared.answers.CommitRefusal.TheVariants as commit
+use Rattle.mi_tree.specs.declared.outcomes.Leaf.{Leaf}
+use Rattle.mi_tree.specs.Counting.{beginning}
+use Rattle.mi_tree.specs.Legal.{cells_of}
 use Rattle.mi_tree.specs.Cells.{Grid, depth, depth_after, leaf_of}
 use Rattle.mi_tree.proofs.LegalLemmas.{live_updated}
 use Rattle.mi_tree.proofs.ListLemmas.{all_weaker}
@@ -113,3 +117,20 @@ module _ (b : BoardState) (pivots : List (List ℤ)) (levels cell : ℕ) (entrie
 pub no_refusal : (b new : BoardState) (actor op : ℕ) (u : Update) (r : CommitRefusal) → HasRoom b → Commits b actor op u false (Err r) new → ⊥
 no_refusal b new actor op u (commit.Full limit) room h = omega (arith, room, h.0.0, h.0.1)
 no_refusal b new actor op u commit.Crowded room h = absurd (false≢true h.1.0)
+
+-- the actor after a change of its state
+changed_at : (f : ActorState → ActorState) (i : ℕ) (actors : List ActorState) → i < length actors → actor_at (change f i actors) i ≡ f (actor_at actors i)
+changed_at f i [] lt = absurd (omega arith)
+changed_at f zero (a ∷ actors) lt = refl
+changed_at f (suc i) (a ∷ actors) lt = changed_at f i actors (omega arith)
+
+-- an actor that has reserved, and claims the leaf that was found, may commit
+pub may_commit : (b b' : BoardState) (actor : ℕ) (perm : List ℕ) (leaf : Leaf) → actor < length b.actors → beginning perm (cells_of b.settings b.log) ≡ leaf ∷ [] → (actor_at b.actors actor).reserved ≡ true
+    → b' ≡ with_actor (claiming leaf.prefix) actor b → MayCommit b' actor perm
+may_commit b b' actor perm leaf known one reserved is =
+    let now : actor_at (change (claiming leaf.prefix) actor b.actors) actor ≡ claiming leaf.prefix (actor_at b.actors actor) = changed_at (claiming leaf.prefix) actor b.actors known in
+    subst (λ (x : BoardState). MayCommit x actor perm) (sym is) (record {
+      known = omega (arith, known, length-change (claiming leaf.prefix) actor b.actors);
+      claims = subst (λ (a : ActorState). IsTrue (claims_leaf_of perm a.claim)) (sym now) (kept_begins perm (cells_of b.settings b.log) leaf one);
+      reserved = ap (λ (a : ActorState). a.reserved) now ∙ reserved;
+    })
