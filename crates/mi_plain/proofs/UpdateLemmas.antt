@@ -1,5 +1,5 @@
 -- The list and its board after an update, and after a claim or a reservation.
-use Rattle.std.proofs.Common.{◌≡◌, ℕ, ℤ, zero, suc, IsTrue, ◌<◌, ◌+◌, List, [], ◌∷◌, ◌++◌, map, length, Bool, true, false, take, min, refl, sym, ap, ◌∙◌, subst, arith, None, Err}
+use Rattle.std.proofs.Common.{◌≡◌, ℕ, ℤ, zero, suc, IsTrue, ◌<◌, ◌+◌, List, [], ◌∷◌, ◌++◌, map, length, Bool, true, false, take, min, refl, sym, ap, ◌∙◌, subst, arith, None, Some, Err}
 use Rattle.std.specs.List.{AllByRecursion}
 use Rattle.std.specs.Map.{lookup, remove_entry}
 use Rattle.std.specs.BTreeMap.{is_at, insert_entry}
@@ -134,3 +134,21 @@ may_commit b b' actor perm leaf known one reserved is =
       claims = subst (λ (a : ActorState). IsTrue (claims_leaf_of perm a.claim)) (sym now) (kept_begins perm (cells_of b.settings b.log) leaf one);
       reserved = ap (λ (a : ActorState). a.reserved) now ∙ reserved;
     })
+
+-- an actor that claims a leaf is one of the actors
+claims_known : (actors : List ActorState) (i : ℕ) (p : List ℕ) → (actor_at actors i).claim ≡ Some p → i < length actors
+claims_known [] i p h = cc
+claims_known (a ∷ actors) zero p h = omega arith
+claims_known (a ∷ actors) (suc i) p h = omega (arith, claims_known actors i p h)
+
+-- an actor that has reserved, and claims the leaf of a permutation, may commit
+pub may_store : (b : BoardState) (actor : ℕ) (perm : List ℕ) (leaf : Leaf) → beginning perm (cells_of b.settings b.log) ≡ leaf ∷ [] → (actor_at b.actors actor).claim ≡ Some leaf.prefix → (actor_at b.actors actor).reserved ≡ true → MayCommit b actor perm
+may_store b actor perm leaf one claims reserved = record {
+  known = claims_known b.actors actor leaf.prefix claims;
+  claims = subst (λ o. IsTrue (claims_leaf_of perm o)) (sym claims) (kept_begins perm (cells_of b.settings b.log) leaf one);
+  reserved = reserved;
+}
+
+-- an actor has reserved once it has
+pub reserved_now : (b b' : BoardState) (actor : ℕ) → actor < length b.actors → b' ≡ with_actor (reserving true) actor b → (actor_at b'.actors actor).reserved ≡ true
+reserved_now b b' actor known is = ap (λ (x : BoardState). (actor_at x.actors actor).reserved) is ∙ ap (λ (a : ActorState). a.reserved) (changed_at (reserving true) actor b.actors known)
