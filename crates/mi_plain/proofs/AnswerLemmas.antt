@@ -11,14 +11,14 @@ use Rattle.mi_base.specs.declared.records.Update.TheVariants as update
 use Rattle.mi_base.specs.declared.records.Op.{Op}
 use Rattle.mi_base.specs.declared.records.Op.TheVariants.{Insert, Delete}
 use Rattle.mi_base.specs.declared.records.Reply.{Reply}
-use Rattle.mi_base.specs.declared.records.Reply.TheVariants.{Stored, Removed, Present, Absent, Full, Memory}
+use Rattle.mi_base.specs.declared.records.Reply.TheVariants.{Stored, Removed, Present, Absent}
 use Rattle.mi_base.specs.declared.records.Position.{Position}
 use Rattle.mi_base.specs.Configuration.{Configuration}
 use Rattle.mi_base.specs.History.{Entered, IsPosition, at_position, end_of, entered, events_at, is_live, updates_of}
-use Rattle.mi_base.proofs.HistoryLemmas.{entered-append, few_updates, length-entered, updates_of-append}
+use Rattle.mi_base.proofs.HistoryLemmas.{entered-append, few_updates, updates_of-append}
 use Rattle.mi_tree.specs.InTurn.{BeganAt}
 use Rattle.mi_tree.specs.Legal.{accepted, events_to}
-use Rattle.mi_tree.specs.Right.{IsUpdateNumber, Right, before, history_at}
+use Rattle.mi_tree.specs.Right.{IsUpdateNumber, Right, before}
 use Rattle.mi_plain.specs.Answering.{Answers, Grows, GrowsBySplits, TellsBetween}
 
 -- the end of a log is one of its positions, and names the whole log
@@ -59,16 +59,6 @@ pub absent_answered : (c : Configuration) (log : List LogEvent) (session op id :
 absent_answered c log session op id p is gone =
     subst (λ (x : Position). Answers c log session op (Delete id) (Absent x) log) (sym is)
     (unchanged c log session op (Delete id) (Absent (end_of log)) refl (end_position log, ap (λ (l : List LogEvent). is_live id (updates_of l)) (at_end log) ∙ gone) refl (omega (arith, events_at_end log), omega (arith, events_at_end log)))
-
--- memory was wanted, after splits or none
-pub memory_answered : (c : Configuration) (old new : List LogEvent) (session op : ℕ) (o : Op) → accepted session op o Memory ≡ [] → Right c new session op o Memory → GrowsBySplits old new → Answers c old session op o Memory new
-memory_answered c old new session op o none right by = record {
-  grows = by.grows;
-  enters = by.enters ∙ sym (append-nil (entered old)) ∙ ap (λ es. entered old ++ es) (sym none);
-  right = right;
-  began = tt;
-  tells = tt;
-}
 
 slice_get-append_seam : {X : Type 0} (xs : List X) (y : X) (ys : List X) → slice_get (xs ++ y ∷ ys) (length xs) ≡ Some y
 slice_get-append_seam xs y ys =

@@ -1,5 +1,5 @@
 -- The list and its board after an update, and after a claim or a reservation.
-use Rattle.std.proofs.Common.{◌≡◌, ℕ, ℤ, zero, suc, IsTrue, ◌<◌, ◌+◌, List, [], ◌∷◌, ◌++◌, map, length, Bool, true, false, take, min, refl, sym, ap, ◌∙◌, subst, arith, None, Some, Err}
+use Rattle.std.proofs.Common.{◌≡◌, ℕ, ℤ, zero, suc, IsTrue, ◌<◌, List, [], ◌∷◌, ◌++◌, map, length, true, false, take, min, refl, sym, ap, ◌∙◌, subst, arith, None, Some, Err}
 use Rattle.std.specs.List.{AllByRecursion}
 use Rattle.std.specs.Map.{lookup, remove_entry}
 use Rattle.std.specs.BTreeMap.{is_at, insert_entry}
@@ -22,7 +22,6 @@ use Rattle.mi_board.proofs.ActorLemmas.{length-change}
 use Rattle.mi_board.proofs.FoundLemmas.{kept_begins}
 use Rattle.mi_board.proofs.StepLemmas.{state}
 use Rattle.mi_key.specs.declared.entries.Entry.{Entry}
-use Rattle.mi_key.specs.declared.keys.KeyParts.{KeyParts}
 use Rattle.mi_key.specs.Clusters.{cluster_of}
 use Rattle.mi_key.specs.Keys.{key_of}
 use Rattle.mi_tree.specs.declared.answers.CommitRefusal.{CommitRefusal}
@@ -30,7 +29,7 @@ use Rattle.mi_tree.specs.declared.answers.CommitRefusal.TheVariants as commit
 use Rattle.mi_tree.specs.declared.outcomes.Leaf.{Leaf}
 use Rattle.mi_tree.specs.Counting.{beginning}
 use Rattle.mi_tree.specs.Legal.{cells_of}
-use Rattle.mi_tree.specs.Cells.{Grid, depth, depth_after, leaf_of}
+use Rattle.mi_tree.specs.Cells.{Grid, depth_after, leaf_of}
 use Rattle.mi_tree.proofs.LegalLemmas.{live_updated}
 use Rattle.mi_tree.proofs.ListLemmas.{all_weaker}
 use Rattle.mi_plain.specs.Plain.{IsKept, IsPlain, grid_for, leaf_key, object_in}
@@ -96,9 +95,9 @@ module _ (b : BoardState) (pivots : List (List ℤ)) (levels cell : ℕ) (entrie
       let none = no_entry id absent in
       let K : ℕ × Entry → Type 0 = λ x. IsKept b.settings b.log x.0 x.1 in
       subst (λ (es : List (ℕ × Entry)). IsPlain b' pivots levels cell es) (sym entries_are)
-          (plain_updated b' (insert_entry nat_cmp entries id e) session op (Insert id e.vector) (change released session (change (reserving false) session b.actors))
-              (length-change released session (change (reserving false) session b.actors) ∙ length-change (reserving false) session b.actors ∙ p.two)
-              is (same_inserted id e entries (live (updates_of b.log)) none p.same) (all_inserted K id e entries none kept p.kept))
+      (plain_updated b' (insert_entry nat_cmp entries id e) session op (Insert id e.vector) (change released session (change (reserving false) session b.actors))
+      (length-change released session (change (reserving false) session b.actors) ∙ length-change (reserving false) session b.actors ∙ p.two)
+      is (same_inserted id e entries (live (updates_of b.log)) none p.same) (all_inserted K id e entries none kept p.kept))
 
   -- a delete beside its entry, which the actor claimed before, and after which the claim ends
   pub plain_removed : (b' : BoardState) (entries' : List (ℕ × Entry)) (session op id : ℕ) (prefix : List ℕ)
@@ -109,9 +108,9 @@ module _ (b : BoardState) (pivots : List (List ℤ)) (levels cell : ℕ) (entrie
       let K : ℕ × Entry → Type 0 = λ x. IsKept b.settings b.log x.0 x.1 in
       let claimed = change (claiming prefix) session b.actors in
       subst (λ (es : List (ℕ × Entry)). IsPlain b' pivots levels cell es) (sym entries_are)
-          (plain_updated b' (remove_entry (is_at (nat_cmp id)) entries) session op (Delete id) (change released session (change (reserving false) session claimed))
-              (length-change released session (change (reserving false) session claimed) ∙ length-change (reserving false) session claimed ∙ length-change (claiming prefix) session b.actors ∙ p.two)
-              is (same_removed id entries (live (updates_of b.log)) gone p.same) (all_removed K (is_at (nat_cmp id)) entries p.kept))
+      (plain_updated b' (remove_entry (is_at (nat_cmp id)) entries) session op (Delete id) (change released session (change (reserving false) session claimed))
+      (length-change released session (change (reserving false) session claimed) ∙ length-change (reserving false) session claimed ∙ length-change (claiming prefix) session b.actors ∙ p.two)
+      is (same_removed id entries (live (updates_of b.log)) gone p.same) (all_removed K (is_at (nat_cmp id)) entries p.kept))
 
 -- an update isn't refused where the log has room and the leaf isn't crowded
 pub no_refusal : (b new : BoardState) (actor op : ℕ) (u : Update) (r : CommitRefusal) → HasRoom b → Commits b actor op u false (Err r) new → ⊥

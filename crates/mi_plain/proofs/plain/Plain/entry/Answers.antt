@@ -1,14 +1,10 @@
-use Rattle.std.proofs.Common.{◌≡◌, ℕ, ◌∙◌, ◌≤◌, ◌<◌, ◌+◌, ap, sym, subst, arith, length, List, [], refl, true}
-use Rattle.mi_base.specs.Configuration.{IsWithinLimits}
-use Rattle.mi_base.specs.History.{updates_of}
-use Rattle.mi_base.specs.Permutations.{key_distance, distance_at_first, permutation_of}
+use Rattle.std.proofs.Common.{◌≡◌, ℕ, ◌∙◌, ◌≤◌, ◌+◌, ap, sym, subst, arith, length, List, true}
+use Rattle.mi_base.specs.Permutations.{key_distance, distance_at_first}
 use Rattle.mi_base.specs.Prefixes.{all_below}
 use Rattle.mi_board.specs.Boards.{BoardState}
-use Rattle.mi_key.specs.declared.keys.KeyParts.{KeyParts}
 use Rattle.mi_key.specs.Clusters.{cluster_of}
-use Rattle.mi_key.specs.Keys.{key_of}
 use Rattle.mi_tree.specs.Cells.{leaf_of}
-use Rattle.mi_plain.specs.Plain.{grid_for, leaf_key}
+use Rattle.mi_plain.specs.Plain.{grid_for}
 use Rattle.mi_plain.proofs.PlacingLemmas.{found_fits, found_prefix, made_kept}
 use Rattle.mi_plain.proofs.plain.Plain.entry.Goals as goal
 
@@ -43,7 +39,7 @@ returns-clause-kept c =
     let prefix = found_prefix s.settings c.end-birth.ensures.limits s.log c.end-birth.ensures.legal v leaf c.requires.found in
     let cluster : c.cluster_number-cluster.result ≡ cluster_of (length s.settings.pivots) s.settings.levels (leaf_of g s.log (g.perm v)) =
     c.cluster_number-cluster.ensures.number ∙ ap (λ n. cluster_of n c.self.inside.levels leaf.prefix) count ∙ ap (λ n. cluster_of (length s.settings.pivots) n leaf.prefix) levels
-        ∙ ap (λ p. cluster_of (length s.settings.pivots) s.settings.levels p) prefix in
+    ∙ ap (λ p. cluster_of (length s.settings.pivots) s.settings.levels p) prefix in
     let distance : c.key_distance-distance.result ≡ g.distance v =
     c.key_distance-distance.ensures.value ∙ ap (λ p. distance_at_first c.args.dists.items p) c.permutation.ensures.value ∙ ap (λ (ds : List ℕ). key_distance ds) c.requires.dists in
     let born : birth ≤ s.settings.updates = omega (arith, c.requires.room, ap (λ p. p.updates) c.end-birth.ensures.end) in

@@ -1,4 +1,4 @@
-use Rattle.std.proofs.Common.{◌≡◌, ℕ, ◌∙◌, ◌<◌, ap, sym, refl, subst, arith, length, map, true, false, List, Some, None}
+use Rattle.std.proofs.Common.{◌≡◌, ℕ, ◌∙◌, ap, sym, refl, subst, arith, length, map, true, false, List, Some, None}
 use Rattle.std.specs.Prelude.{◌==◌, is_some}
 use Rattle.std.specs.Map.{lookup, remove_entry}
 use Rattle.std.specs.BTreeMap.{is_at}
@@ -9,7 +9,7 @@ use Rattle.mi_base.specs.declared.records.LogEvent.TheVariants.{Update as Made}
 use Rattle.mi_base.specs.declared.records.Update.TheVariants.{Delete}
 use Rattle.mi_base.specs.Configuration.{space_of}
 use Rattle.mi_base.specs.History.{Object, is_live, live, updates_of}
-use Rattle.mi_base.specs.Permutations.{distances, permutation_of}
+use Rattle.mi_base.specs.Permutations.{permutation_of}
 use Rattle.mi_base.proofs.HistoryLemmas.{same_any}
 use Rattle.mi_base.proofs.PivotLemmas.{length-permutation_of}
 use Rattle.mi_board.specs.Actors.{actor_at, claiming, released, reserving}

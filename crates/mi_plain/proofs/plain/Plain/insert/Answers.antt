@@ -26,7 +26,7 @@ measure-dists-requires-clause-pivots g c =
     let s = c.self.inside in
     let space : g.M.Metric.space c.args.metric.now ≡ metric_space s.board.settings = c.requires.space ∙ ap (λ (x : BoardState). metric_space x.settings) (sym c.self.view_is) in
     subst (λ (m : MetricSpace). AllByRecursion (λ p. IsTrue (m.fits p)) s.pivots) (sym space)
-        (subst (λ (ps : List (List ℤ)). AllByRecursion (λ p. IsTrue ((metric_space s.board.settings).fits p)) ps) (sym c.self.invariant.pivots_are) c.self.invariant.limits.pivots)
+    (subst (λ (ps : List (List ℤ)). AllByRecursion (λ p. IsTrue ((metric_space s.board.settings).fits p)) ps) (sym c.self.invariant.pivots_are) c.self.invariant.limits.pivots)
 
 pub invariant_of-self-2 : goal.invariant_of-self-2
 invariant_of-self-2 g c =
@@ -42,7 +42,7 @@ entry-entry-requires-clause-found g c =
     let pivots : c.self.inside.pivots ≡ s.settings.pivots = c.self.invariant.pivots_are ∙ ap (λ (x : BoardState). x.settings.pivots) c.self.view_is in
     let measured : c.measure-dists.result.items ≡ distances (space_of new.settings) v =
     c.measure-dists.ensures.distances ∙ ap (λ (m : MetricSpace). distances (record { metric = m; pivots = c.self.inside.pivots }) v) c.requires.space
-        ∙ ap (λ (ps : List (List ℤ)). distances (record { metric = metric_space s.settings; pivots = ps }) v) pivots ∙ ap (λ (k : Configuration). distances (space_of k) v) (sym settings) in
+    ∙ ap (λ (ps : List (List ℤ)). distances (record { metric = metric_space s.settings; pivots = ps }) v) pivots ∙ ap (λ (k : Configuration). distances (space_of k) v) (sym settings) in
     let perm : c.permutation-perm.result ≡ permutation_of (distances (space_of new.settings) v) = c.permutation-perm.ensures.value ∙ ap (λ (ds : List ℕ). permutation_of ds) measured in
     subst (λ (p : List ℕ). beginning p (cells_of new.settings new.log) ≡ c.in-Ok-claim_uncrowded.leaf ∷ []) perm c.in-Ok-claim_uncrowded.ensures.found
 

@@ -1,4 +1,4 @@
-use Rattle.std.proofs.Common.{◌≡◌, ℕ, ◌∙◌, ◌<◌, ap, sym, subst, arith, length, false, List, Err, Bool}
+use Rattle.std.proofs.Common.{◌≡◌, ℕ, ◌∙◌, ap, sym, subst, arith, length, false, List, Err, Bool}
 use Rattle.mi_base.specs.declared.records.LogEvent.TheVariants.{Update as Made}
 use Rattle.mi_base.specs.declared.records.Update.TheVariants.{Insert}
 use Rattle.mi_base.specs.Permutations.{permutation_of}
@@ -19,7 +19,7 @@ pub invariant_of-self : goal.invariant_of-self
 invariant_of-self c =
     let s = c.self.inside in
     subst (λ es. IsPlain c.release_leaf.new.self s.pivots s.levels s.cell es) (sym c.in_default.ensures.err)
-        (plain_changed s.board s.pivots s.levels s.cell s.entries.entries c.self.invariant c.release_leaf.new.self released 0 c.release_leaf.ensures)
+    (plain_changed s.board s.pivots s.levels s.cell s.entries.entries c.self.invariant c.release_leaf.new.self released 0 c.release_leaf.ensures)
 
 pub unreachable-requires : goal.unreachable-requires
 unreachable-requires c =
