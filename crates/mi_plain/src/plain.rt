@@ -323,6 +323,7 @@ impl Plain {
         requires room { HasRoom self.now }
         requires fits { IsTrue ((metric_space self.now.settings).fits vector.now) }
         requires dists { dists.items ≡ distances (space_of self.now.settings) vector.now }
+        requires bound { All (λ d. d ≤ 128000000) dists.items }
         requires found { beginning ((grid_in self.now).perm vector.now) (cells_of self.now.settings self.now.log) ≡ leaf.now ∷ [] }
         ensures kept { IsKept self.now.settings self.now.log id result }
         ensures vector { result.vector ≡ vector.now }
