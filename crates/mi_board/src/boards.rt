@@ -65,6 +65,13 @@ impl Board {
         })
     }
 
+    /// The settings that the board was opened with.
+    pub fn settings(&self) -> &Settings
+        ensures { result.now ≡ self.now.settings }
+    {
+        &self.settings
+    }
+
     /// How many actors the board was opened for. They are numbered from 0.
     pub fn actors(&self) -> usize
         ensures { result ≡ length self.now.actors }

@@ -6,3 +6,6 @@ mod boards;
 
 pub use actors::ActorState;
 pub use boards::Board;
+
+#[cfg(test)]
+mod conditions;
