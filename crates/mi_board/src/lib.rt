@@ -9,3 +9,7 @@ pub use boards::Board;
 
 #[cfg(test)]
 mod conditions;
+#[cfg(test)]
+mod plain;
+#[cfg(test)]
+mod tests;

@@ -4,7 +4,7 @@ ghost use Rattle.std.specs.Prelude.{◌<◌};
 use crate::Board;
 use crate::conditions::{self, Live};
 use crate::plain::{Event, Plain};
-use mi_base::{Id, LogEvent, MetricKind, Settings, TableRows, Update, Vector, VectorList};
+use mi_base::{Id, MetricKind, Settings, TableRows, Vector, VectorList};
 use mi_metric::L1;
 use mi_perm::Pivots;
 use mi_tree::{CommitRefusal, LeafClaim, Look, Placed, ReserveRefusal, Work};
@@ -116,7 +116,7 @@ fn claim(rt: &impl Abort, trial: &mut Trial, actor: u32, place: &Placed) {
             trial.plain.change_claim(actor, Some(taken.prefix));
         }
         Some(LeafClaim::Held { by }) => {
-            assert_eq!(rt; trial.plain.claimant(leaf), Some(by as usize));
+            assert_eq!(rt; trial.plain.claimant(leaf), Some(by));
             trial.seen.held = true;
         }
     }
@@ -124,7 +124,10 @@ fn claim(rt: &impl Abort, trial: &mut Trial, actor: u32, place: &Placed) {
 
 fn release(rt: &impl Abort, trial: &mut Trial, actor: u32) {
     let claims = trial.plain.claim(actor).is_some();
-    assert_eq!(rt; conditions::release_leaf(&mut trial.board, actor).is_some(), claims);
+    assert_eq!(rt;
+        conditions::release_leaf(&mut trial.board, actor).is_some(),
+        claims
+    );
     trial.plain.change_claim(actor, None);
 }
 
@@ -132,18 +135,18 @@ fn next_work(rt: &impl Abort, trial: &mut Trial, actor: u32) {
     match conditions::next_work(&mut trial.board, actor) {
         None => assert!(rt; trial.plain.claim(actor).is_some()),
         Some(Work::Sweep { prefix }) => {
-            let retired = trial.plain.sweep().expect(rt, "a retired leaf");
-            assert_eq!(rt; prefix.as_slice(), retired.as_slice());
+            assert_eq!(rt; Some(prefix.as_slice()), trial.plain.retired());
+            trial.plain.sweep();
             trial.seen.sweep = true;
         }
         Some(Work::Split { leaf }) => {
-            assert!(rt; trial.plain.sweep().is_none());
+            assert!(rt; trial.plain.retired().is_none());
             assert_eq!(rt; Some(leaf.prefix.as_slice()), trial.plain.first_wanted());
             trial.plain.change_claim(actor, Some(leaf.prefix));
             trial.seen.split = true;
         }
         Some(Work::Idle) => {
-            assert!(rt; trial.plain.sweep().is_none() && trial.plain.first_wanted().is_none());
+            assert!(rt; trial.plain.retired().is_none() && trial.plain.first_wanted().is_none());
             trial.seen.idle = true;
         }
     }
@@ -204,13 +207,22 @@ fn delete(rt: &impl Abort, trial: &mut Trial, actor: u32, op: u32, id: Id) -> Re
     let answer = conditions::delete(rt, trial.alloc, &mut trial.board, actor, op, id)?;
     assert_eq!(rt; answer.is_some(), trial.plain.may_delete(actor, id));
     let Some(answer) = answer else { return Ok(()) };
-    entered(rt, trial, actor, answer, false, Event::Delete { actor, op, id })
+    entered(
+        rt,
+        trial,
+        actor,
+        answer,
+        false,
+        Event::Delete { actor, op, id },
+    )
 }
 
 fn publish(rt: &impl Abort, trial: &mut Trial, actor: u32) -> Result<(), Fail> {
     let position = conditions::publish(rt, trial.alloc, &mut trial.board, actor)?;
     assert_eq!(rt; position.is_some(), trial.plain.may_publish(actor));
-    let Some(position) = position else { return Ok(()) };
+    let Some(position) = position else {
+        return Ok(())
+    };
     trial.plain.split(actor)?;
     assert_eq!(rt; position, trial.board.look().at);
     Ok(())
@@ -219,10 +231,19 @@ fn publish(rt: &impl Abort, trial: &mut Trial, actor: u32) -> Result<(), Fail> {
 /// The board is what the plain program says: its log, its leaves, its actors, its look.
 fn same(rt: &impl Abort, trial: &Trial) {
     let look = trial.board.look();
-    assert_eq!(rt; look, Look { at: look.at, root: 0, height: 0, floor: look.at });
+    assert_eq!(rt;
+        look,
+        Look {
+            at: look.at,
+            root: 0,
+            height: 0,
+            floor: look.at
+        }
+    );
     assert_eq!(rt; look.at.updates as usize, trial.plain.updates());
     assert_eq!(rt; trial.board.log().len(), trial.plain.len());
-    assert_eq!(rt; trial.board.log().len() - look.at.updates as usize, look.at.splits as usize);
+    let splits = trial.plain.len().saturating_sub(trial.plain.updates());
+    assert_eq!(rt; look.at.splits as usize, splits);
     for (place, event) in trial.board.log().iter().enumerate() {
         assert!(rt; trial.plain.has_event(place, event), "event {place}");
     }
@@ -232,7 +253,11 @@ fn same(rt: &impl Abort, trial: &Trial) {
         let leaf = cells.leaf(place);
         let prefix = leaf.prefix.as_slice();
         assert!(rt; trial.plain.is_leaf(prefix), "leaf {place}");
-        assert_eq!(rt; leaf.count as usize, trial.plain.count(prefix), "leaf {place}");
+        assert_eq!(rt;
+            leaf.count as usize,
+            trial.plain.count(prefix),
+            "leaf {place}"
+        );
     }
     for actor in 0..2 {
         assert!(rt; trial.plain.has_actor(actor, &trial.board), "actor {actor}");
