@@ -33,7 +33,7 @@ impl Draws {
 }
 
 /// Which answers have come.
-#[derive(Clone, Copy, Debug, PartialEq, Eq)]
+#[derive(Clone, Copy, Debug, Default, PartialEq, Eq)]
 struct Seen {
     full: bool,
     late: bool,
@@ -85,7 +85,7 @@ fn line(
 /// An object of a few places and a few identifiers.
 fn object(rt: &impl Abort, draws: &mut Draws) -> Live {
     Live {
-        id: Id::new(u64::from(draws.below(24))).expect(rt, "a small number"),
+        id: Id::new(u64::from(draws.below(40))).expect(rt, "a small number"),
         vector: Vector::new(&[i64::from(draws.below(30))]).expect(rt, "a small place"),
     }
 }
@@ -281,23 +281,21 @@ fn turn(rt: &impl Abort, trial: &mut Trial, op: u32) -> Result<(), Fail> {
     Ok(())
 }
 
-/// So many turns of two actors.
-fn run(rt: &impl Abort, alloc: Global, settings: &Settings, turns: u32) -> Result<Seen, Fail> {
+/// So many turns of two actors, and which answers have come by then.
+fn run(
+    rt: &impl Abort,
+    alloc: Global,
+    settings: &Settings,
+    turns: u32,
+    seen: Seen,
+) -> Result<Seen, Fail> {
     let board = Board::open(alloc, settings, 2)?;
     let mut trial = Trial {
         alloc,
         board,
         plain: Plain::open(alloc, settings.pivots.len(), settings.levels, settings.cell)?,
         draws: Draws { state: 7 },
-        seen: Seen {
-            full: false,
-            late: false,
-            crowded: false,
-            held: false,
-            sweep: false,
-            split: false,
-            idle: false,
-        },
+        seen,
     };
     same(rt, &trial);
     for op in 0..turns {
@@ -310,25 +308,26 @@ fn run(rt: &impl Abort, alloc: Global, settings: &Settings, turns: u32) -> Resul
 
 #[test]
 fn random_calls_keep_the_definitions(rt: HostRuntime) -> Result<(), Fail> {
-    let table: [(&[i64], u32, u32, bool); 4] = [
-        (&[0, 10], 2, 1, true),
-        (&[0, 10, 20], 3, 2, true),
-        (&[0, 10, 20], 2, 1, true),
-        (&[], 0, 1, false),
+    let mut seen = Seen::default();
+    let table: [(&[i64], u32, u32); 4] = [
+        (&[], 0, 1),
+        (&[0, 10], 2, 1),
+        (&[0, 10, 20], 3, 2),
+        (&[0, 10, 20], 2, 1),
     ];
-    for (places, levels, cell, splits) in table {
+    for (places, levels, cell) in table {
         let settings = line(&rt, rt.alloc(), places, levels, cell)?;
-        let seen = run(&rt, rt.alloc(), &settings, 1500)?;
-        let wanted = Seen {
-            full: true,
-            late: true,
-            crowded: splits,
-            held: true,
-            sweep: splits,
-            split: splits,
-            idle: true,
-        };
-        assert_eq!(rt; seen, wanted, "{levels} levels");
+        seen = run(&rt, rt.alloc(), &settings, 6000, seen)?;
     }
+    let all = Seen {
+        full: true,
+        late: true,
+        crowded: true,
+        held: true,
+        sweep: true,
+        split: true,
+        idle: true,
+    };
+    assert_eq!(rt; seen, all);
     Ok(())
 }
