@@ -1,5 +1,5 @@
 -- What a caller finds in a log and in its cells.
-use Rattle.std.proofs.Common.{◌≡◌, ℕ, ℤ, map, List, [], ◌∷◌, Bool, true, false, cond, not, ◌&&◌, ◌||◌, refl, sym, ap, ◌∙◌, Some}
+use Rattle.std.proofs.Common.{◌≡◌, ℕ, ℤ, List, [], ◌∷◌, Bool, true, false, cond, not, ◌&&◌, ◌||◌, refl, sym, ap, ◌∙◌, Some}
 use Rattle.std.specs.Prelude.{◌==◌}
 use Rattle.std.specs.List.{filter, list_any, slice_get}
 use Rattle.std.proofs.lemmas.Bool.{and_parts, eq-eqb}
@@ -14,10 +14,6 @@ use Rattle.mi_board.proofs.CrowdLemmas.{or_nothing}
 -- an element that passes a test is one that does
 pub any_at : {X : Type 0} (p : X → Bool) (xs : List X) (i : ℕ) (x : X) → slice_get xs i ≡ Some x → p x ≡ true → list_any p xs ≡ true
 any_at p xs i x at h = list_any_at p xs i x (slice_get_within xs i x at) (ap p (get_or_from_slice_get xs i x x at) ∙ h)
-
-pub any_map : {X Y : Type 0} (t : Y → Bool) (f : X → Y) (xs : List X) → list_any t (map f xs) ≡ list_any (λ x. t (f x)) xs
-any_map t f [] = refl
-any_map t f (x ∷ xs) = ap (λ b. t (f x) || b) (any_map t f xs)
 
 -- no object of an identifier is among the others
 none_other : (id : ℕ) (q : Object → Bool) (os : List Object) → list_any (λ o. (o.id == id) && q o) (filter (λ o. not (o.id == id)) os) ≡ false

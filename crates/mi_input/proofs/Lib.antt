@@ -1,7 +1,10 @@
 pub mod CaseLemmas
 pub mod EachLemmas
+pub mod PivotLaws
 pub mod RecordLemmas
+pub mod RunLemmas
 pub mod ScriptLaws
 pub mod ScriptLemmas
 pub mod TableLemmas
+pub mod VectorLaws
 pub mod VectorLemmas

@@ -4,3 +4,4 @@ pub mod Records
 pub mod Schedules
 pub mod Scripts
 pub mod Settings
+pub mod Vectors

@@ -66,6 +66,17 @@ next_begins word (fields ∷ rest) = begins_with word fields
 abbrev pub limited : {X : Type 0} → ℕ → ℕ → Result X Reason → Result X Reason
 limited most number read = if nat_le number most then read else Err Limit
 
+-- the records from a place on that begin with a word, where so many of them stand before it, each read by its form with its
+-- number among them, and the place after them
+unfoldable pub run_of : {X : Type 0} → List ℕ → (ℕ → List (List ℕ) → Result X Reason) → ℕ → ℕ → List (List (List ℕ)) → Result (List X × Place) Fault
+run_of word form before number [] = Ok ([], record { number = number; records = [] })
+run_of word form before number (fields ∷ rest) =
+    if begins_with word fields then (do
+      x ← at_record number (form (before + 1) fields)
+      more ← run_of word form (before + 1) (number + 1) rest
+      Ok (x ∷ more.0, more.1))
+    else Ok ([], record { number = number; records = fields ∷ rest })
+
 -- each field, read by its form
 abbrev pub each : {X : Type 0} → (List ℕ → Result X Reason) → List (List ℕ) → Result (List X) Reason
 each form [] = Ok []

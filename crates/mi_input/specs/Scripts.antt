@@ -1,39 +1,16 @@
 -- The script in a file.
-use Rattle.std.specs.Prelude.{ℕ, ℤ, pos, neg_ℤ, ◌+◌, ◌-◌, ◌^◌, ◌==◌, ◌≤◌, ◌≤ℤ◌, if◌then◌else◌, List, [], ◌∷◌, length, drop, codes, Result, Ok, Err}
+use Rattle.std.specs.Prelude.{ℕ, ◌+◌, ◌-◌, ◌^◌, ◌==◌, ◌≤◌, if◌then◌else◌, List, [], ◌∷◌, length, drop, codes, Result, Ok, Err}
 use Rattle.std.specs.List.{AllByRecursion}
 use Rattle.mi_base.specs.declared.records.Op.{Op}
 use Rattle.mi_base.specs.declared.records.Op.TheVariants.{Insert, Delete, Range, Nearest}
-use Rattle.mi_base.specs.declared.settings.MetricKind.{MetricKind}
-use Rattle.mi_base.specs.declared.settings.MetricKind.TheVariants.{L1, Max, Hamming, Table}
 use Rattle.mi_base.specs.Configuration.{Configuration}
 use Rattle.mi_input.specs.declared.faults.Reason.{Reason}
 use Rattle.mi_input.specs.declared.faults.Reason.TheVariants.{Word, Fields, Unbuilt}
 use Rattle.mi_input.specs.declared.vectors.Shape.{Shape}
 use Rattle.mi_input.specs.Faults.{Fault, ◌>>=◌, at_record}
-use Rattle.mi_input.specs.Numbers.{count_in, whole_in}
-use Rattle.mi_input.specs.Records.{begins_with, each, field_in, limited, records_in}
-
--- the least coordinate
-abbrev pub lowest : MetricKind → ℤ
-lowest Table = pos 0
-lowest L1 = neg_ℤ (pos 1000000)
-lowest Max = neg_ℤ (pos 1000000)
-lowest Hamming = neg_ℤ (pos 1000000)
-
--- the greatest coordinate, which under a table is the last row's number
-abbrev pub highest : MetricKind → List (List ℕ) → ℤ
-highest Table rows = pos (length rows - 1)
-highest L1 rows = pos 1000000
-highest Max rows = pos 1000000
-highest Hamming rows = pos 1000000
-
--- how many coordinates a vector has, and from where to where each is
-abbrev pub shape_of : Configuration → Shape
-shape_of c = record { dims = c.dims; lowest = lowest c.metric; highest = highest c.metric c.rows }
-
--- the coordinates in these fields
-abbrev pub vector_in : Shape → List (List ℕ) → Result (List ℤ) Reason
-vector_in shape fields = each (whole_in shape.lowest shape.highest) fields
+use Rattle.mi_input.specs.Numbers.{count_in}
+use Rattle.mi_input.specs.Records.{begins_with, field_in, limited, records_in}
+use Rattle.mi_input.specs.Vectors.{shape_of, vector_in}
 
 abbrev pub id_in : List ℕ → Result ℕ Reason
 id_in field = count_in 0 (2 ^ 40 - 1) field
@@ -64,33 +41,27 @@ range_in shape fields =
       Ok (Range radius query))
     else Err Fields
 
--- the operation in the record of this number, or the first thing that is wrong with it
-unfoldable pub op_in : Shape → ℕ → List (List ℕ) → Result Op Reason
-op_in shape number fields =
+-- the operation in the record of this number, or the first thing that is wrong with it; range queries can't be read yet
+-- where there are pivots, nor nearest queries at all
+unfoldable pub op_in : Shape → ℕ → ℕ → List (List ℕ) → Result Op Reason
+op_in shape pivots number fields =
     if begins_with (codes "insert") fields then limited 200000 number (insert_in shape fields)
     else if begins_with (codes "delete") fields then limited 200000 number (delete_in fields)
-    else if begins_with (codes "range") fields then limited 200000 number (range_in shape fields)
+    else if begins_with (codes "range") fields then (if pivots == 0 then limited 200000 number (range_in shape fields) else Err Unbuilt)
     else if begins_with (codes "nearest") fields then Err Unbuilt
     else Err Word
 
 -- the operations in these records, of which this is the number of the first, up to the first fault
-unfoldable pub script_from : Shape → ℕ → List (List (List ℕ)) → Result (List Op) Fault
-script_from shape number [] = Ok []
-script_from shape number (fields ∷ rest) = do
-  op ← at_record number (op_in shape number fields)
-  ops ← script_from shape (number + 1) rest
+unfoldable pub script_from : Shape → ℕ → ℕ → List (List (List ℕ)) → Result (List Op) Fault
+script_from shape pivots number [] = Ok []
+script_from shape pivots number (fields ∷ rest) = do
+  op ← at_record number (op_in shape pivots number fields)
+  ops ← script_from shape pivots (number + 1) rest
   Ok (op ∷ ops)
 
 -- the script in a file of these bytes under these settings, or its first fault
 abbrev pub script_in : Configuration → List ℕ → Result (List Op) Fault
-script_in c bytes = script_from (shape_of c) 1 (records_in bytes)
-
--- a vector of this shape is one
-pub record IsShape (shape : Shape) : Type 0 where
-  pub some : 1 ≤ shape.dims
-  pub few : shape.dims ≤ 64
-  pub lowest : neg_ℤ (pos 1000000) ≤ℤ shape.lowest
-  pub highest : shape.highest ≤ℤ pos 1000000
+script_in c bytes = script_from (shape_of c) (length c.pivots) 1 (records_in bytes)
 
 -- an operation of a kind that can be read
 abbrev pub IsServed : Op → Type 0
@@ -101,3 +72,14 @@ IsServed (Nearest count query) = ⊥
 
 abbrev pub AreServed : List Op → Type 0
 AreServed ops = AllByRecursion IsServed ops
+
+-- an insert or a delete
+abbrev pub IsUpdate : Op → Type 0
+IsUpdate (Insert id vector) = Unit {0}
+IsUpdate (Delete id) = Unit {0}
+IsUpdate (Range radius query) = ⊥
+IsUpdate (Nearest count query) = ⊥
+
+-- where there are pivots, each operation is an update
+abbrev pub AreUpdatesUnderPivots : Configuration → List Op → Type 0
+AreUpdatesUnderPivots c ops = 1 ≤ length c.pivots → AllByRecursion IsUpdate ops

@@ -1,15 +1,19 @@
 -- The settings in a file.
-use Rattle.std.specs.Prelude.{◌≡◌, ℕ, ◌+◌, ◌==◌, ◌&&◌, ◌≤◌, if◌then◌else◌, List, [], ◌∷◌, length, drop, bytes_eq, codes, Result, Ok, Err, nat_le}
+use Rattle.std.specs.Prelude.{◌≡◌, ℕ, ℤ, ◌+◌, ◌==◌, ◌&&◌, ◌≤◌, if◌then◌else◌, List, [], ◌∷◌, length, drop, bytes_eq, codes, Result, Ok, Err, IsTrue, min, nat_le}
+use Rattle.std.specs.List.{AllByRecursion}
 use Rattle.mi_base.specs.declared.settings.MetricKind.{MetricKind}
 use Rattle.mi_base.specs.declared.settings.MetricKind.TheVariants.{L1, Max, Hamming, Table}
-use Rattle.mi_base.specs.Configuration.{Configuration, HasItsRows, IsTable}
+use Rattle.mi_base.specs.Configuration.{Configuration, HasItsRows, IsDepth, IsTable}
+use Rattle.mi_base.specs.Space.{metric_of}
 use Rattle.mi_input.specs.declared.faults.Reason.{Reason}
-use Rattle.mi_input.specs.declared.faults.Reason.TheVariants.{Word, Fields, Unbuilt}
+use Rattle.mi_input.specs.declared.faults.Reason.TheVariants.{Word, Fields}
 use Rattle.mi_input.specs.declared.settings.Measure.{Measure}
 use Rattle.mi_input.specs.declared.settings.Sizes.{Sizes}
-use Rattle.mi_input.specs.Faults.{Fault, ◌>>=◌, at_record}
+use Rattle.mi_input.specs.declared.vectors.Shape.{Shape}
+use Rattle.mi_input.specs.Faults.{Fault, ◌>>=◌}
 use Rattle.mi_input.specs.Numbers.{count_in}
-use Rattle.mi_input.specs.Records.{Place, begins_with, each, ending, field_in, limited, reading, start}
+use Rattle.mi_input.specs.Records.{Place, begins_with, each, ending, field_in, limited, reading, run_of, start}
+use Rattle.mi_input.specs.Vectors.{shape_under, vector_in}
 
 -- the metric of this name
 abbrev pub kind_in : List ℕ → Result MetricKind Reason
@@ -55,21 +59,11 @@ row_in number fields =
     if begins_with (codes "row") fields then limited 128 number (values_in (drop 1 fields))
     else Err Word
 
--- the rows from a place on, where so many stand before it, up to the first record that is none
-unfoldable pub rows_from : ℕ → ℕ → List (List (List ℕ)) → Result (List (List ℕ) × Place) Fault
-rows_from before number [] = Ok ([], record { number = number; records = [] })
-rows_from before number (fields ∷ rest) =
-    if begins_with (codes "row") fields then (do
-      row ← at_record number (row_in (before + 1) fields)
-      more ← rows_from (before + 1) (number + 1) rest
-      Ok (row ∷ more.0, more.1))
-    else Ok ([], record { number = number; records = fields ∷ rest })
-
 -- one row at least
 unfoldable pub table_in : Place → Result (List (List ℕ) × Place) Fault
 table_in place = do
   first ← reading (row_in 1) place
-  more ← rows_from 1 first.1.number first.1.records
+  more ← run_of (codes "row") row_in 1 first.1.number first.1.records
   Ok (first.0 ∷ more.0, more.1)
 
 -- rows stand under a table alone
@@ -87,16 +81,22 @@ measure_in place = do
   rows ← rows_in metric.0 dims.1
   Ok (record { metric = metric.0; dims = dims.0; rows = rows.0 }, rows.1)
 
--- levels,N: 0, since there are no pivots; pivots can't be read yet
-unfoldable pub levels_in : List (List ℕ) → Result ℕ Reason
-levels_in fields =
-    if begins_with (codes "pivot") fields then Err Unbuilt
-    else setting_in (codes "levels") 0 0 fields
+-- pivot,COORDINATES: the pivot of this number, from 1
+unfoldable pub pivot_in : Shape → ℕ → List (List ℕ) → Result (List ℤ) Reason
+pivot_in shape number fields = limited 32 number (if length fields == shape.dims + 1 then vector_in shape (drop 1 fields) else Err Fields)
+
+-- pivot,COORDINATES ..: there may be none
+unfoldable pub pivots_in : Shape → Place → Result (List (List ℤ) × Place) Fault
+pivots_in shape place = run_of (codes "pivot") (pivot_in shape) 0 place.number place.records
+
+-- levels,N: 0 without pivots, else at least 1 and at most 6 and the number of pivots
+abbrev pub levels_in : ℕ → List (List ℕ) → Result ℕ Reason
+levels_in pivots fields = setting_in (codes "levels") (min 1 pivots) (min 6 pivots) fields
 
 -- levels,N / cell,N / updates,N / pages,N
-unfoldable pub sizes_in : Place → Result (Sizes × Place) Fault
-sizes_in place = do
-  levels ← reading levels_in place
+unfoldable pub sizes_in : ℕ → Place → Result (Sizes × Place) Fault
+sizes_in pivots place = do
+  levels ← reading (levels_in pivots) place
   cell ← reading (setting_in (codes "cell") 1 10000) levels.1
   updates ← reading (setting_in (codes "updates") 1 200000) cell.1
   pages ← reading (setting_in (codes "pages") 1 200000) updates.1
@@ -106,25 +106,30 @@ sizes_in place = do
 unfoldable pub settings_in : List ℕ → Result Configuration Fault
 settings_in bytes = do
   measure ← measure_in (start bytes)
-  sizes ← sizes_in measure.1
+  pivots ← pivots_in (shape_under measure.0.metric measure.0.dims measure.0.rows) measure.1
+  sizes ← sizes_in (length pivots.0) pivots.1
   ending sizes.1 (record {
     metric = measure.0.metric;
     dims = measure.0.dims;
     rows = measure.0.rows;
-    pivots = [];
+    pivots = pivots.0;
     levels = sizes.0.levels;
     cell = sizes.0.cell;
     updates = sizes.0.updates;
     pages = sizes.0.pages;
   })
 
--- what the settings want of the first part, and of the second
+-- what the settings want of the first part, of the pivots, and of the last
 pub record IsMeasure (measure : Measure) : Type 0 where
   pub dims : (1 ≤ measure.dims) × (measure.dims ≤ 64)
   pub rows : HasItsRows measure.metric measure.dims measure.rows
 
-pub record AreSizes (sizes : Sizes) : Type 0 where
-  pub levels : sizes.levels ≡ 0
+pub record ArePivots (measure : Measure) (pivots : List (List ℤ)) : Type 0 where
+  pub few : length pivots ≤ 32
+  pub fit : AllByRecursion (λ pivot. IsTrue ((metric_of measure.metric measure.dims measure.rows).fits pivot)) pivots
+
+pub record AreSizes (pivots : ℕ) (sizes : Sizes) : Type 0 where
+  pub levels : IsDepth pivots sizes.levels
   pub cell : (1 ≤ sizes.cell) × (sizes.cell ≤ 10000)
   pub updates : (1 ≤ sizes.updates) × (sizes.updates ≤ 200000)
   pub pages : (1 ≤ sizes.pages) × (sizes.pages ≤ 200000)

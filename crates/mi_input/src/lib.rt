@@ -4,6 +4,7 @@
 mod faults;
 mod fields;
 mod numbers;
+mod pivots;
 mod records;
 mod schedules;
 mod scripts;

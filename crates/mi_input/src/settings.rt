@@ -1,6 +1,7 @@
 //! Settings.
-ghost use Rattle.std.specs.Prelude.{◌≡◌, ◌+◌, ◌<◌, ◌≤◌, ◌^◌, codes, [], Ok, IfOk, IfErr, OnOk};
+ghost use Rattle.std.specs.Prelude.{◌≡◌, ◌+◌, ◌<◌, ◌≤◌, codes, Ok, IfOk, IfErr, OnOk};
 ghost use Rattle.csv.specs.Records.{fields_of};
+ghost use Rattle.mi_base.specs.Configuration.{IsDepth};
 ghost use Rattle.mi_input.specs.Faults.{Gives, IsFaultOf};
 ghost use Rattle.mi_input.specs.Records.{reading};
 ghost use Rattle.mi_input.specs.Settings.{AreItsRows, AreSizes, IsMeasure, kind_in, levels_in, measure_in, metric_in, most_dims, rows_in, setting_in, settings_in, sizes_in};
@@ -8,12 +9,15 @@ ghost use Rattle.mi_input.specs.Settings.{AreItsRows, AreSizes, IsMeasure, kind_
 use crate::faults::{InputFault, Reason, in_record};
 use crate::fields::{begins, field};
 use crate::numbers::count;
+use crate::pivots::pivots;
 use crate::records::Records;
 use crate::tables::table;
 use csv::ByteRecord;
-use mi_base::{MetricKind, Settings, TableRows, VectorList};
+use mi_base::{MetricKind, Settings, TableRows};
 use std::alloc::Global;
 
+/// The greatest number of levels.
+const MAX_LEVELS: u32 = 6;
 /// The greatest number of objects in a cell.
 const MAX_CELL: u32 = 10_000;
 /// The greatest number of updates.
@@ -21,12 +25,12 @@ const MAX_UPDATES: u32 = 200_000;
 /// The greatest number of pages.
 const MAX_PAGES: u32 = 200_000;
 
-// How distances are measured.
+/// How distances are measured.
 #[derive(Drop)]
-struct Measure {
-    metric: MetricKind,
-    dims: u32,
-    rows: TableRows,
+pub(crate) struct Measure {
+    pub(crate) metric: MetricKind,
+    pub(crate) dims: u32,
+    pub(crate) rows: TableRows,
 }
 
 // How large things may get.
@@ -87,17 +91,6 @@ fn setting_of(fields: &ByteRecord, word: &[u8], least: u32, most: u32) -> Result
     Ok(number as u32)
 }
 
-#[tactic(auto, unfolding(crate::specs::Settings::levels_in))]
-fn levels_of(fields: &ByteRecord) -> Result<u32, Reason>
-    ensures value { result ≡ levels_in (fields_of fields.now) }
-    ensures none { IfOk result (λ number. number ≡ 0) }
-{
-    if begins(fields, b"pivot") {
-        return Err(Reason::Unbuilt);
-    }
-    setting_of(fields, b"levels", 0, 0)
-}
-
 // The next record as a metric.
 fn metric(records: &mut Records) -> Result<MetricKind, InputFault>
     requires { records.old.number < 1000 }
@@ -123,17 +116,14 @@ fn setting(records: &mut Records, word: &[u8], least: u32, most: u32) -> Result<
     Ok(number)
 }
 
-// The next record as the number of levels.
-fn levels(records: &mut Records) -> Result<u32, InputFault>
+// The next record as the number of levels, where there are so many pivots.
+fn levels(records: &mut Records, pivots: u32) -> Result<u32, InputFault>
     requires { records.old.number < 1000 }
-    ensures gives { Gives (λ number. (number, records.new)) result (reading levels_in records.old) }
-    ensures none { IfOk result (λ number. number ≡ 0) }
+    ensures gives { Gives (λ number. (number, records.new)) result (reading (levels_in pivots) records.old) }
+    ensures depth { IfOk result (IsDepth pivots) }
     ensures number { OnOk result (records.new.number ≡ records.old.number + 1) }
 {
-    let fields = records.expect()?;
-    let number = in_record(records.number(), levels_of(fields))?;
-    records.advance()?;
-    Ok(number)
+    setting(records, b"levels", pivots.min(1), pivots.min(MAX_LEVELS))
 }
 
 fn rows(alloc: Global, records: &mut Records, metric: MetricKind) -> Result<TableRows, InputFault>
@@ -172,12 +162,12 @@ fn read_measure(alloc: Global, records: &mut Records) -> Result<Measure, InputFa
 }
 
 #[tactic(auto, unfolding(crate::specs::Settings::sizes_in))]
-fn read_sizes(records: &mut Records) -> Result<Sizes, InputFault>
-    requires { records.old.number < 300 }
-    ensures gives { Gives (λ sizes. (sizes, records.new)) result (sizes_in records.old) }
-    ensures sizes { IfOk result AreSizes }
+fn read_sizes(records: &mut Records, pivots: u32) -> Result<Sizes, InputFault>
+    requires { records.old.number < 400 }
+    ensures gives { Gives (λ sizes. (sizes, records.new)) result (sizes_in pivots records.old) }
+    ensures sizes { IfOk result (AreSizes pivots) }
 {
-    let levels = levels(records)?;
+    let levels = levels(records, pivots)?;
     let cell = setting(records, b"cell", 1, MAX_CELL)?;
     let updates = setting(records, b"updates", 1, MAX_UPDATES)?;
     let pages = setting(records, b"pages", 1, MAX_PAGES)?;
@@ -193,12 +183,12 @@ fn read_sizes(records: &mut Records) -> Result<Sizes, InputFault>
 #[tactic(auto, unfolding(crate::specs::Settings::settings_in))]
 pub fn read_settings(alloc: Global, bytes: &[u8]) -> Result<Settings, InputFault>
     ensures ok { IfOk result (λ settings. settings_in bytes.now ≡ Ok settings) }
-    ensures pivots { IfOk result (λ settings. settings.pivots ≡ []) }
     ensures err { IfErr result (IsFaultOf (settings_in bytes.now)) }
 {
     let mut records = Records::new(alloc, bytes)?;
     let measure = read_measure(alloc, &mut records)?;
-    let sizes = read_sizes(&mut records)?;
+    let pivots = pivots(alloc, &mut records, &measure)?;
+    let sizes = read_sizes(&mut records, pivots.len() as u32)?;
     if records.current().is_some() {
         return Err(records.fault(Reason::Extra));
     }
@@ -206,7 +196,7 @@ pub fn read_settings(alloc: Global, bytes: &[u8]) -> Result<Settings, InputFault
         metric: measure.metric,
         dims: measure.dims,
         rows: measure.rows,
-        pivots: VectorList::new(alloc),
+        pivots,
         levels: sizes.levels,
         cell: sizes.cell,
         updates: sizes.updates,

@@ -17,6 +17,9 @@ const GOOD: &[u8] = b"metric,l1\ndims,2\nlevels,0\ncell,4\nupdates,8\npages,4\n"
 /// Settings with a table of three rows.
 const ROWS: &[u8] =
     b"metric,table\ndims,1\nrow,0,1,3\nrow,1,0,1\nrow,3,1,0\nlevels,-0\ncell,10000\nupdates,200000\npages,200000";
+/// Settings for two coordinates with three pivots.
+const PIVOTS: &[u8] =
+    b"metric,l1\ndims,2\npivot,0,0\npivot,-1000000,1000000\npivot,0,0\nlevels,3\ncell,4\nupdates,8\npages,4\n";
 /// A script of three operations, spelled in several ways.
 const SPELLED: &[u8] = b"\xef\xbb\xbf\"insert\",7,+0,-00\r\n\r\nrange,21,\"1\",1\ndelete,7\n";
 
@@ -48,7 +51,7 @@ fn is_at<T: Drop>(read: Result<T, InputFault>, number: u32, why: Reason) -> bool
     }
 }
 
-static BAD_SETTINGS: [(&[u8], &[u8], u32, Reason); 59] = [
+static BAD_SETTINGS: [(&[u8], &[u8], u32, Reason); 71] = [
     (b"", b"", 1, Reason::End),
     (b"\n\r\n\n", b"", 1, Reason::End),
     (b"\"\"\n", b"", 1, Reason::Word),
@@ -82,7 +85,16 @@ static BAD_SETTINGS: [(&[u8], &[u8], u32, Reason); 59] = [
     (b"metric,table\n", b"dims,2\n", 2, Reason::Range),
     (PLAIN, b"", 3, Reason::End),
     (PLAIN, b"row,1\n", 3, Reason::Word),
-    (PLAIN, b"pivot\n", 3, Reason::Unbuilt),
+    (PLAIN, b"pivot\n", 3, Reason::Fields),
+    (PLAIN, b"pivot,0\n", 3, Reason::Fields),
+    (PLAIN, b"pivot,0,0,0\n", 3, Reason::Fields),
+    (PLAIN, b"pivot,x,1000001\n", 3, Reason::Number),
+    (PLAIN, b"pivot,0,1000001\n", 3, Reason::Range),
+    (PLAIN, b"pivot,-1000001,x\n", 3, Reason::Range),
+    (PLAIN, b"pivot,0,0\n", 4, Reason::End),
+    (PLAIN, b"pivot,0,0\nrow,0\n", 4, Reason::Word),
+    (PLAIN, b"pivot,0,0\nlevels,0\n", 4, Reason::Range),
+    (PLAIN, b"pivot,0,0\nlevels,2\n", 4, Reason::Range),
     (PLAIN, b"levels,1\n", 3, Reason::Range),
     (PLAIN, b"levels\n", 3, Reason::Fields),
     (TABLE, b"", 3, Reason::End),
@@ -94,7 +106,10 @@ static BAD_SETTINGS: [(&[u8], &[u8], u32, Reason); 59] = [
     (TABLE, b"row,128000001,x\n", 3, Reason::Range),
     (TABLE, b"row,-1\n", 3, Reason::Range),
     (TABLE, b"row,0\nmetric\n", 4, Reason::Word),
-    (TABLE, b"row,0\npivot,1,2\n", 4, Reason::Unbuilt),
+    (TABLE, b"row,0\npivot,0,0\n", 4, Reason::Fields),
+    (TABLE, b"row,0\npivot,1\n", 4, Reason::Range),
+    (TABLE, b"row,0\npivot,-1\n", 4, Reason::Range),
+    (TABLE, b"row,0\npivot,0\nrow,0\n", 5, Reason::Word),
     (TABLE, b"row,0\nrow,0\n", 5, Reason::End),
     (SIZED, b"levels,0\n", 4, Reason::Word),
     (SIZED, b"pivot,0,0\n", 4, Reason::Word),
@@ -160,6 +175,20 @@ fn bad_scripts(rt: HostRuntime) {
     }
 }
 
+static BAD_UNDER_PIVOTS: [(&[u8], u32, Reason); 4] = [
+    (b"range,1,0,0\n", 1, Reason::Unbuilt),
+    (b"range\n", 1, Reason::Unbuilt),
+    (b"nearest,1,0,0\n", 1, Reason::Unbuilt),
+    (b"insert,1,0,0\ninsert,2,0\n", 2, Reason::Fields),
+];
+
+#[test]
+fn bad_scripts_under_pivots(rt: HostRuntime) {
+    for (text, number, why) in &BAD_UNDER_PIVOTS {
+        assert!(rt; is_at(script(rt.alloc(), PIVOTS, text), *number, *why));
+    }
+}
+
 static BAD_ROWS: [(&[u8], Reason); 3] = [
     (b"insert,1,3\n", Reason::Range),
     (b"insert,1,-1\n", Reason::Range),
@@ -209,6 +238,39 @@ fn long_tables(rt: HostRuntime) -> Result<(), Fail> {
     Ok(())
 }
 
+/// How many pivots there are and the levels, where there are so many pivots and this line follows.
+fn depth(alloc: Global, pivots: usize, levels: &[u8]) -> Result<(usize, u32), Fail> {
+    let head = repeated(alloc, PLAIN, pivots, b"pivot,0,0\n", levels)?;
+    let bytes = repeated(
+        alloc,
+        head.as_slice(),
+        1,
+        b"cell,4\nupdates,8\npages,4\n",
+        b"",
+    )?;
+    let settings = read_settings(alloc, bytes.as_slice())
+        .ok()
+        .ok_or("the settings are good")?;
+    Ok((settings.pivots.len(), settings.levels))
+}
+
+#[test]
+fn many_pivots(rt: HostRuntime) -> Result<(), Fail> {
+    for (end, why) in [
+        (&b"pivot\n"[..], Reason::Limit),
+        (b"levels,7\n", Reason::Range),
+        (b"pages,1\n", Reason::Word),
+    ] {
+        let bytes = repeated(rt.alloc(), PLAIN, 32, b"pivot,0,0\n", end)?;
+        assert!(rt; is_at(read_settings(rt.alloc(), bytes.as_slice()), 35, why));
+    }
+    assert_eq!(rt; depth(rt.alloc(), 32, b"levels,6\n")?, (32, 6));
+    assert_eq!(rt; depth(rt.alloc(), 32, b"levels,1\n")?, (32, 1));
+    assert_eq!(rt; depth(rt.alloc(), 1, b"levels,1\n")?, (1, 1));
+    assert_eq!(rt; depth(rt.alloc(), 0, b"levels,0\n")?, (0, 0));
+    Ok(())
+}
+
 /// How many operations there are, and the number and the first coordinate of the last one.
 fn summary(script: &Script) -> (usize, u64, i64) {
     let mut last = (0, 0);
@@ -251,6 +313,12 @@ fn good_scripts(rt: HostRuntime) {
         assert!(rt; reads_as(script(rt.alloc(), GOOD, text), *want));
     }
     assert!(rt; reads_as(script(rt.alloc(), ROWS, b"insert,1,2\n"), (1, 1, 2)));
+    assert!(rt;
+        reads_as(
+            script(rt.alloc(), PIVOTS, b"insert,1,2,0\ndelete,1\n"),
+            (2, 1, 0)
+        )
+    );
 }
 
 fn are_good(settings: &Settings) -> bool {
@@ -270,6 +338,14 @@ fn good_settings(rt: HostRuntime) -> Result<(), Fail> {
         .ok()
         .ok_or("the settings are good")?;
     assert!(rt; are_good(&settings));
+    let settings = read_settings(rt.alloc(), PIVOTS)
+        .ok()
+        .ok_or("the pivots are good")?;
+    assert_eq!(rt; (settings.pivots.len(), settings.levels), (3, 3));
+    assert_eq!(rt;
+        settings.pivots.as_slice()[1].as_slice(),
+        &[-1_000_000, 1_000_000][..]
+    );
     Ok(())
 }
 

@@ -1,15 +1,15 @@
 //! Coordinates in the fields of a record.
 ghost use Rattle.std.specs.Prelude.{◌≡◌, ◌+◌, ◌≤◌, drop, length};
 ghost use Rattle.csv.specs.Records.{fields_of};
-ghost use Rattle.mi_base.specs.Configuration.{IsWithinLimits};
-ghost use Rattle.mi_input.specs.Scripts.{IsShape, shape_of, vector_in};
+ghost use Rattle.mi_base.specs.Configuration.{HasItsRows, IsWithinLimits};
+ghost use Rattle.mi_input.specs.Vectors.{IsShape, shape_of, shape_under, vector_in};
 
 use crate::faults::Reason;
 use crate::fields::field;
 use crate::numbers::whole;
 use arrayvec::ArrayVec;
 use csv::ByteRecord;
-use mi_base::{MetricKind, Settings, Vector};
+use mi_base::{MetricKind, Settings, TableRows, Vector};
 
 /// How many coordinates a vector has, and the bounds of each.
 #[derive(Clone, Copy)]
@@ -20,21 +20,31 @@ pub(crate) struct Shape {
 }
 
 impl Shape {
+    /// The shape of the vectors under this metric, for so many coordinates or over these rows.
+    pub(crate) fn under(metric: MetricKind, dims: u32, rows: &TableRows) -> Shape
+        requires dims { (1 ≤ dims) × (dims ≤ 64) }
+        requires rows { HasItsRows metric dims rows.now }
+        ensures shape { result ≡ shape_under metric dims rows.now }
+        ensures is_shape { IsShape result }
+    {
+        let (lowest, highest) = match metric {
+            MetricKind::Table => (0, rows.len() as i64 - 1),
+            MetricKind::L1 | MetricKind::Max | MetricKind::Hamming => (-1_000_000, 1_000_000),
+        };
+        Shape {
+            dims: dims as usize,
+            lowest,
+            highest,
+        }
+    }
+
     /// The shape of the vectors under these settings.
     pub(crate) fn of(settings: &Settings) -> Shape
         ensures shape { result ≡ shape_of settings.now }
         ensures within { IsWithinLimits settings.now }
         ensures is_shape { IsShape result }
     {
-        let (lowest, highest) = match settings.metric {
-            MetricKind::Table => (0, settings.rows.len() as i64 - 1),
-            MetricKind::L1 | MetricKind::Max | MetricKind::Hamming => (-1_000_000, 1_000_000),
-        };
-        Shape {
-            dims: settings.dims as usize,
-            lowest,
-            highest,
-        }
+        Shape::under(settings.metric, settings.dims, &settings.rows)
     }
 
     /// The vector in the fields from this place on.

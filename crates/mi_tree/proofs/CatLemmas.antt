@@ -1,10 +1,11 @@
 -- What each event does to the leaves with their counts and hulls.
 use Rattle.std.proofs.Common.{◌≡◌, ℕ, ℤ, ◌+◌, ◌-◌, List, [], ◌∷◌, ◌++◌, map, length, Bool, true, false, cond, not, ◌&&◌, nat_eq, refl, sym, ap, ◌∙◌, subst, arith, append-nil}
 use Rattle.std.specs.List.{AllByRecursion, filter, fold, list_any, flat_map}
-use Rattle.std.proofs.lemmas.Bool.{false≢true}
+use Rattle.std.proofs.lemmas.Bool.{false≢true, or_right}
 use Rattle.std.proofs.lemmas.Grind.{fold-append}
 use Rattle.std.proofs.lemmas.List.{length-map}
 use Rattle.std.proofs.lemmas.List.Elements.{filter-append}
+use Rattle.std.proofs.lemmas.List.Folds.{flat_map-map}
 use Rattle.mi_base.specs.declared.records.Update.TheVariants.{Insert, Delete}
 use Rattle.mi_base.specs.declared.records.LogEvent.{LogEvent}
 use Rattle.mi_base.specs.declared.records.LogEvent.TheVariants.{Update as Made, Split}
@@ -17,7 +18,7 @@ use Rattle.mi_tree.specs.declared.outcomes.Leaf.{Leaf}
 use Rattle.mi_tree.specs.declared.counts.Placed.{Placed}
 use Rattle.mi_tree.specs.Cells.{Grid, IsGrid, leaves, leaves_after, first_leaves, children, same_cell, split_cell, is_leaf, AllMaySplit}
 use Rattle.mi_tree.specs.Counting.{widen, hull_of, Held, belongs, held_after, held, leaf_with, cat, placed, added, removed, leaf_among, parted}
-use Rattle.mi_tree.proofs.ListLemmas.{filter_same, filter_twice, filter_none, filter_map, map_twice, all_weaker, all_any, all_map, map_same, or_true, map-flat, flat-map, flat_same}
+use Rattle.mi_tree.proofs.ListLemmas.{filter_same, filter_twice, filter_none, filter_map, map_twice, all_weaker, all_any, all_map, map_same, map-flat, flat_same}
 use Rattle.mi_tree.proofs.LeafLemmas.{same_self, leaf_apart}
 use Rattle.mi_tree.proofs.HullLemmas.{leaf_made, leaf_equal, among_same}
 
@@ -92,7 +93,7 @@ begins_front (x ∷ p) i (y ∷ xs) h =
 -- each leaf is one
 every_leaf : (ls : List (List ℕ)) → AllByRecursion (λ p. list_any (same_cell p) ls ≡ true) ls
 every_leaf [] = tt
-every_leaf (p ∷ ls) = (rw (same_self p) refl, all_weaker _ _ (λ q h. rw h (or_true (same_cell q p))) ls (every_leaf ls))
+every_leaf (p ∷ ls) = (rw (same_self p) refl, all_weaker _ _ (λ q h. rw h (or_right (same_cell q p) true refl)) ls (every_leaf ls))
 
 -- a narrower test decides
 narrow : (a b : Bool) → (a ≡ false → b ≡ false) → (a && b) ≡ b
@@ -165,7 +166,7 @@ module _ (g : Grid) (ok : IsGrid g) (log : List LogEvent) (legal : AllMaySplit g
   whole = cat-append g log (Split p)
       ∙ map-flat (leaf_with g (held_after g (held g log) (Split p))) (split_cell g.pivots p) (leaves g log)
       ∙ flat_same _ (λ q. parted g.pivots p objects (leaf_with g (held g log) q)) (leaves g log) (all_weaker _ _ one_part (leaves g log) (every_leaf (leaves g log)))
-      ∙ sym (flat-map (leaf_with g (held g log)) (parted g.pivots p objects) (leaves g log))
+      ∙ sym (flat_map-map (parted g.pivots p objects) (leaf_with g (held g log)) (leaves g log))
 
   -- the objects may be given in any order
   pub cat-split : (objects : List Placed) → SameElements objects (map (placed g) (filter (belongs g p) (live (updates_of log)))) → cat g (log ++ Split p ∷ []) ≡ flat_map (parted g.pivots p objects) (cat g log)

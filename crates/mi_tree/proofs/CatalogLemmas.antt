@@ -4,9 +4,9 @@ use Rattle.std.specs.List.{filter, flat_map, range_with_len}
 use Rattle.std.specs.Prelude.{slice_get, slice_set, IfSome}
 use Rattle.std.proofs.lemmas.Bool.{and_from, and_parts, false≢true}
 use Rattle.std.proofs.lemmas.Bool.Decides.{nat_tests}
-use Rattle.std.proofs.lemmas.List.{take_more, map-append, flat_map_more, length-map}
+use Rattle.std.proofs.lemmas.List.{map-append, map-id, length-map}
 use Rattle.std.proofs.lemmas.List.Elements.{filter-append}
-use Rattle.std.proofs.lemmas.List.Folds.{list_all-append}
+use Rattle.std.proofs.lemmas.List.Folds.{flat_map-map, list_all-append}
 use Rattle.mi_base.specs.Prefixes.{has, is_prefix, all_below, are_different}
 use Rattle.mi_base.specs.Permutations.{begins}
 use Rattle.mi_base.specs.Configuration.{IsDepth}
@@ -16,7 +16,7 @@ use Rattle.mi_tree.specs.declared.counts.Placed.{Placed}
 use Rattle.mi_tree.specs.Cells.{children, same_cell, split_cell, first_leaves}
 use Rattle.mi_tree.specs.Counting.{widen, added, removed, leaf_among, parted, beginning}
 use Rattle.mi_tree.specs.Catalogs.{prefixes, Partition, IsCatalog}
-use Rattle.mi_tree.proofs.ListLemmas.{filter_map, map_twice, all_any, map-flat, flat-map, flat_same}
+use Rattle.mi_tree.proofs.ListLemmas.{filter_map, map_twice, all_any, map-flat, flat_same}
 use Rattle.mi_tree.proofs.LeafLemmas.{perm_is, split_one, first_one, begins_is}
 use Rattle.mi_tree.proofs.OrderLemmas.{split_keeps_order, first_leaves_in_order}
 use Rattle.mi_tree.proofs.SearchLemmas.{Between, some_passes, only_one, map_one}
@@ -137,31 +137,9 @@ pub child_not : (start items : List Leaf) (p : List ℕ) (objects : List Placed)
     → items ≡ start ++ map (leaf_among objects) (children (i + 1) p)
 child_not start items p objects i was new = was ∙ ap (λ xs. start ++ map (leaf_among objects) xs) (sym (child_more i p ∙ (rw new (append-nil (children i p)))))
 
-module _ (pivots : ℕ) (p : List ℕ) (objects : List Placed) (leaves : List Leaf) (i : ℕ) (x : Leaf) (lt : i < length leaves) (at : x ≡ get_or leaves i x) (items next : List Leaf)
-    (was : items ≡ flat_map (parted pivots p objects) (take i leaves)) where
-  -- the parts of one more leaf
-  part_more : flat_map (parted pivots p objects) (take (i + 1) leaves) ≡ items ++ parted pivots p objects x
-  part_more =
-      ap (flat_map (parted pivots p objects)) (take_more leaves i x lt ∙ ap (λ y. take i leaves ++ y ∷ []) (sym at))
-      ∙ sym (flat_map_more (parted pivots p objects) [] (take i leaves) x)
-      ∙ ap (λ ys. ys ++ parted pivots p objects x) (sym was)
-
-  -- the next leaf is the one that is split, or another
-  pub part_in : same_cell p x.prefix ≡ true → next ≡ items ++ map (leaf_among objects) (children pivots p) → next ≡ flat_map (parted pivots p objects) (take (i + 1) leaves)
-  part_in t is = is ∙ sym (part_more ∙ (rw t refl))
-
-  -- the next leaf is another one
-  pub part_out : same_cell p x.prefix ≡ false → next ≡ items ++ x ∷ [] → next ≡ flat_map (parted pivots p objects) (take (i + 1) leaves)
-  part_out t is = is ∙ sym (part_more ∙ (rw t refl))
-
--- a map that changes nothing
-map_itself : {X : Type 0} (xs : List X) → map (λ x. x) xs ≡ xs
-map_itself [] = refl
-map_itself (x ∷ xs) = ap (λ ys. x ∷ ys) (map_itself xs)
-
 -- leaves of given prefixes have them
 pub prefixes_among : (objects : List Placed) (ps : List (List ℕ)) → prefixes (map (leaf_among objects) ps) ≡ ps
-prefixes_among objects ps = map_twice (λ (l : Leaf). l.prefix) (leaf_among objects) ps ∙ map_itself ps
+prefixes_among objects ps = map_twice (λ (l : Leaf). l.prefix) (leaf_among objects) ps ∙ map-id ps
 
 -- the prefixes after a split
 pub prefixes_parted : (n : ℕ) (p : List ℕ) (objects : List Placed) (ls : List Leaf) → prefixes (flat_map (parted n p objects) ls) ≡ flat_map (split_cell n p) (prefixes ls)
@@ -171,7 +149,7 @@ prefixes_parted n p objects ls =
     elim (same_cell p l.prefix) as P [ true ↦ prefixes_among objects (children n p) | false ↦ refl ] in
     map-flat (λ (l : Leaf). l.prefix) (parted n p objects) ls
     ∙ flat_same (λ (l : Leaf). prefixes (parted n p objects l)) (λ l. split_cell n p l.prefix) ls (all_any _ one ls)
-    ∙ sym (flat-map (λ (l : Leaf). l.prefix) (split_cell n p) ls)
+    ∙ sym (flat_map-map (split_cell n p) (λ (l : Leaf). l.prefix) ls)
 
 -- what begins a list is not longer
 begins_short : (p xs : List ℕ) → begins p xs ≡ true → length p ≤ length xs

@@ -2,6 +2,8 @@
 use Rattle.std.proofs.Common.{◌≡◌, ℕ, ◌+◌, ◌<◌, ◌≤◌, List, [], ◌∷◌, map, length, Bool, true, false, ◌||◌, refl, sym, ap, ◌∙◌, subst, arith, Some, None}
 use Rattle.std.specs.List.{filter, fold, list_any}
 use Rattle.std.specs.Prelude.{All, if◌then◌else◌}
+use Rattle.std.proofs.Math.Bool.{or-false}
+use Rattle.std.proofs.lemmas.Bool.{or_right}
 use Rattle.std.proofs.lemmas.List.Elements.{All-from_recursion}
 use Rattle.mi_base.specs.declared.records.Update.TheVariants.{Insert, Delete}
 use Rattle.mi_base.specs.declared.records.LogEvent.{LogEvent}
@@ -16,12 +18,12 @@ use Rattle.mi_tree.specs.declared.outcomes.Leaf.{Leaf}
 use Rattle.mi_tree.specs.Catalog.{is_insert, hull_after, catalog}
 use Rattle.mi_tree.specs.Cells.{Grid, grid_of, same_cell, leaves, leaves_after, is_leaf, AllMaySplit}
 use Rattle.mi_tree.specs.Counting.{widen, hull_of, Held, belongs, held_after, held, leaf_with, cat, has_leaf}
-use Rattle.mi_tree.proofs.ListLemmas.{all_any, all_map, or_true}
+use Rattle.mi_tree.proofs.ListLemmas.{all_any, all_map}
 use Rattle.mi_tree.proofs.CatLemmas.{held_live}
 use Rattle.mi_tree.proofs.HullLemmas.{leaf_equal}
 
 -- a test of what a map gives
-any_map : {X Y : Type 0} (t : Y → Bool) (f : X → Y) (xs : List X) → list_any t (map f xs) ≡ list_any (λ x. t (f x)) xs
+pub any_map : {X Y : Type 0} (t : Y → Bool) (f : X → Y) (xs : List X) → list_any t (map f xs) ≡ list_any (λ x. t (f x)) xs
 any_map t f [] = refl
 any_map t f (x ∷ xs) = ap (λ b. t (f x) || b) (any_map t f xs)
 
@@ -58,11 +60,6 @@ zeros_hull [] = refl
 zeros_hull (x ∷ []) = refl
 zeros_hull (x ∷ y ∷ xs) = ap (widen 0) (zeros_hull (y ∷ xs))
 
--- nothing is added by what is false
-or_no : (b : Bool) → b ≡ (b || false)
-or_no true = refl
-or_no false = refl
-
 -- a grid without levels is never split
 never_split : (g : Grid) → g.levels ≡ 0 → (ls : List (List ℕ)) (log : List LogEvent) → AllMaySplit g log → fold (leaves_after g.pivots) ls log ≡ ls
 never_split g z ls [] h = refl
@@ -71,8 +68,8 @@ never_split g z ls (Split p ∷ log) h = let lt = h.0 in absurd (omega arith)
 
 -- something was put in exactly where there was an insert
 some_put : (g : Grid) → g.levels ≡ 0 → (h : Held) (log : List LogEvent) → AllMaySplit g log → list_any (λ o. true) (fold (held_after g) h log).put ≡ (list_any (λ o. true) h.put || list_any is_insert (updates_of log))
-some_put g z h [] k = or_no (list_any (λ o. true) h.put)
-some_put g z h (Made session op (Insert id vector) ∷ log) k = some_put g z (held_after g h (Made session op (Insert id vector))) log k.1 ∙ sym (or_true (list_any (λ o. true) h.put))
+some_put g z h [] k = sym (or-false (list_any (λ o. true) h.put))
+some_put g z h (Made session op (Insert id vector) ∷ log) k = some_put g z (held_after g h (Made session op (Insert id vector))) log k.1 ∙ sym (or_right (list_any (λ o. true) h.put) true refl)
 some_put g z h (Made session op (Delete id) ∷ log) k = some_put g z (held_after g h (Made session op (Delete id))) log k.1
 some_put g z h (Split p ∷ log) k = let lt = k.0 in absurd (omega arith)
 

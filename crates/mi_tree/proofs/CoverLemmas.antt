@@ -45,11 +45,11 @@ hull_covers f (x ∷ xs) =
     (all_kept (λ y. in_hull (f y) (hull_of (map f xs))) (λ y. in_hull (f y) (widen (f x) (hull_of (map f xs)))) (λ y k. widen_keeps (f x) (f y) (hull_of (map f xs)) k) xs (hull_covers f xs))
 
 -- a test of what another test keeps
-all_filter : {X : Type 0} (t p : X → Bool) (xs : List X) → list_all t (filter p xs) ≡ list_all (λ x. not (p x) || t x) xs
-all_filter t p [] = refl
-all_filter t p (x ∷ xs) =
+all_of_kept : {X : Type 0} (t p : X → Bool) (xs : List X) → list_all t (filter p xs) ≡ list_all (λ x. not (p x) || t x) xs
+all_of_kept t p [] = refl
+all_of_kept t p (x ∷ xs) =
     let P : Bool → Type 0 = λ b. list_all t (cond b (x ∷ filter p xs) (filter p xs)) ≡ ((not b || t x) && list_all (λ y. not (p y) || t y) xs) in
-    elim (p x) as P [ true ↦ ap (λ b. t x && b) (all_filter t p xs) | false ↦ all_filter t p xs ]
+    elim (p x) as P [ true ↦ ap (λ b. t x && b) (all_of_kept t p xs) | false ↦ all_of_kept t p xs ]
 
 -- what follows from two tests
 all_both : {X : Type 0} (t u v : X → Bool) → ((x : X) → t x ≡ true → u x ≡ true → v x ≡ true) → (xs : List X) → list_all t xs ≡ true → list_all u xs ≡ true → list_all v xs ≡ true
@@ -80,11 +80,11 @@ put_live_after g h (Made session op (Insert id vector)) all t k =
     let parts = and_parts (t o) (list_all t h.put) k in
     and_from (t o) (list_all t h.live) parts.0 (all t parts.1)
 put_live_after g h (Made session op (Delete id)) all t k =
-    all_filter t (λ o. not (nat_eq o.id id)) h.live ∙ all_kept t (λ o. not (not (nat_eq o.id id)) || t o) (λ o m. weaker_or (not (nat_eq o.id id)) (t o) m) h.live (all t k)
+    all_of_kept t (λ o. not (nat_eq o.id id)) h.live ∙ all_kept t (λ o. not (not (nat_eq o.id id)) || t o) (λ o m. weaker_or (not (nat_eq o.id id)) (t o) m) h.live (all t k)
 put_live_after g h (Split p) all t k =
     let parts = and_parts _ _ (sym (list_all-append t (filter (λ o. not (belongs g p o)) h.put) (filter (belongs g p) h.live)) ∙ k) in
-    let outer = all (λ o. not (not (belongs g p o)) || t o) (sym (all_filter t (λ o. not (belongs g p o)) h.put) ∙ parts.0) in
-    let inner = sym (all_filter t (belongs g p) h.live) ∙ parts.1 in
+    let outer = all (λ o. not (not (belongs g p o)) || t o) (sym (all_of_kept t (λ o. not (belongs g p o)) h.put) ∙ parts.0) in
+    let inner = sym (all_of_kept t (belongs g p) h.live) ∙ parts.1 in
     all_both (λ o. not (not (belongs g p o)) || t o) (λ o. not (belongs g p o) || t o) t (λ o a b. either (belongs g p o) (t o) a b) h.live outer inner
 
 -- a log keeps that
@@ -104,5 +104,5 @@ put_covered g log p = hull_covers (λ (o : Object). g.distance o.vector) (filter
 pub live_covered : (g : Grid) (log : List LogEvent) (p : List ℕ) → list_all (λ o. in_hull (g.distance o.vector) (leaf_with g (held g log) p).hull) (filter (belongs g p) (live (updates_of log))) ≡ true
 live_covered g log p =
     let t : Object → Bool = λ o. in_hull (g.distance o.vector) (leaf_with g (held g log) p).hull in
-    let all = put_live g log (λ o. not (belongs g p o) || t o) (sym (all_filter t (belongs g p) (held g log).put) ∙ put_covered g log p) in
-    ap (λ (xs : List Object). list_all t (filter (belongs g p) xs)) (sym (held_live g log)) ∙ all_filter t (belongs g p) (held g log).live ∙ all
+    let all = put_live g log (λ o. not (belongs g p o) || t o) (sym (all_of_kept t (belongs g p) (held g log).put) ∙ put_covered g log p) in
+    ap (λ (xs : List Object). list_all t (filter (belongs g p) xs)) (sym (held_live g log)) ∙ all_of_kept t (belongs g p) (held g log).live ∙ all

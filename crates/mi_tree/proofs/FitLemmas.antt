@@ -10,8 +10,9 @@ use Rattle.mi_base.specs.declared.records.LogEvent.{LogEvent}
 use Rattle.mi_base.specs.declared.records.LogEvent.TheVariants.{Update as Made, Split}
 use Rattle.mi_base.specs.Prefixes.{has, all_below}
 use Rattle.mi_base.proofs.PivotLemmas.{all_below-range}
+use Rattle.mi_base.proofs.SortingLemmas.{filter_keeps}
 use Rattle.mi_tree.specs.Cells.{Grid, IsGrid, children, same_cell, split_cell, leaves_after, first_leaves, leaves, AllMaySplit}
-use Rattle.mi_tree.proofs.ListLemmas.{all_map, all_filter, all_weaker, all_joined, all_from_test}
+use Rattle.mi_tree.proofs.ListLemmas.{all_map, all_weaker, all_joined, all_from_test}
 use Rattle.mi_tree.proofs.LeafLemmas.{same_cell_is}
 
 -- a prefix of at most so many of the pivots
@@ -24,7 +25,7 @@ children_fit n levels p below lt =
     let one : (i : ℕ) → nat_lt i n ≡ true → Fits n levels (p ++ i ∷ []) = λ i h.
     (omega (arith, length-append p (i ∷ []), lt), list_all-append (λ x. nat_lt x n) p (i ∷ []) ∙ and_from (all_below n p) (nat_lt i n && true) below (rw h refl)) in
     all_map (λ i. p ++ i ∷ []) (Fits n levels) (filter (λ i. not (has i p)) (range_with_len 0 n))
-    (all_filter _ (λ i. not (has i p)) (range_with_len 0 n) (all_weaker _ _ one (range_with_len 0 n) (all_from_test (λ i. nat_lt i n) (range_with_len 0 n) (all_below-range 0 n n (omega arith)))))
+    (filter_keeps _ (λ i. not (has i p)) (range_with_len 0 n) (all_weaker _ _ one (range_with_len 0 n) (all_from_test (λ i. nat_lt i n) (range_with_len 0 n) (all_below-range 0 n n (omega arith)))))
 
 split_fits : (n levels : ℕ) (p : List ℕ) → length p < levels → (ls : List (List ℕ)) → AllByRecursion (Fits n levels) ls → AllByRecursion (Fits n levels) (flat_map (split_cell n p) ls)
 split_fits n levels p lt [] h = tt

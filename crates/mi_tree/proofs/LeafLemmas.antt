@@ -1,17 +1,18 @@
 -- The leaves partition the permutations.
 use Rattle.std.proofs.Common.{◌≡◌, ◌≢◌, ℕ, ℤ, suc, zero, ◌+◌, ◌<◌, ◌≤◌, List, [], ◌∷◌, ◌++◌, map, length, take, get_or, Bool, true, false, IsTrue, cond, not, ◌&&◌, ◌||◌, nat_eq, nat_lt, nat_le, refl, sym, ap, ◌∙◌, subst, arith, min, append-nil}
 use Rattle.std.specs.List.{filter, fold, flat_map, range_with_len, list_any}
+use Rattle.std.proofs.Math.Bool.{and-true, or-false}
 use Rattle.std.proofs.Math.ListN.{length-take}
 use Rattle.std.proofs.lemmas.List.{take_more, take_all}
 use Rattle.std.proofs.lemmas.List.Folds.{list_all_at}
-use Rattle.std.proofs.lemmas.Bool.{eqb-true, eq-eqb, and_parts, eqb-false, false≢true, ltb-true}
+use Rattle.std.proofs.lemmas.Bool.{eqb-true, eq-eqb, and_parts, and_right, or_right, eqb-false, false≢true, false_from_ne_true, ltb-true}
 use Rattle.mi_base.specs.declared.records.LogEvent.{LogEvent}
 use Rattle.mi_base.specs.declared.records.LogEvent.TheVariants.{Update as Made, Split}
 use Rattle.mi_base.specs.Prefixes.{has, all_below, are_different}
 use Rattle.mi_base.specs.Permutations.{is_permutation, begins}
 use Rattle.mi_base.proofs.PrefixLemmas.{are_different-repeat}
 use Rattle.mi_tree.specs.Cells.{Grid, IsGrid, children, same_cell, split_cell, leaves_after, first_leaves, leaves, is_leaf, depth_after, leaf_of, MaySplit, AllMaySplit}
-use Rattle.mi_tree.proofs.ListLemmas.{filter_twice, filter_same, filter_map, filter_none, all_any, and_no, not_true, or_true, filter_flat, flat_kept}
+use Rattle.mi_tree.proofs.ListLemmas.{filter_twice, filter_same, filter_map, filter_none, all_any, filter_flat, flat_kept}
 
 -- the numbers of n pivots, each once
 pub record IsPerm (n : ℕ) (perm : List ℕ) : Type 0 where
@@ -32,7 +33,7 @@ perm_is n perm h long =
     omega (arith, long, small) in
     let new : (k : ℕ) → k < n → has (get_or perm k 0) (take k perm) ≡ false = λ k lt.
     let inside : k < length perm = omega (arith, long) in
-    not_true (has (get_or perm k 0) (take k perm)) (λ t. false≢true (sym (are_different-repeat perm k inside t) ∙ rest.1)) in
+    false_from_ne_true (has (get_or perm k 0) (take k perm)) (λ t. false≢true (sym (are_different-repeat perm k inside t) ∙ rest.1)) in
     record { long = long; within = low; fresh = new }
 
 -- what begins a list is its front
@@ -58,11 +59,6 @@ begins_within (x ∷ p) zero xs le = absurd (omega arith)
 begins_within (x ∷ p) (suc d) [] le = refl
 begins_within (x ∷ p) (suc d) (y ∷ xs) le = ap (λ b. nat_eq x y && b) (begins_within p d xs (omega arith))
 
--- nothing is added by what is true
-and_true : (b : Bool) → (b && true) ≡ b
-and_true true = refl
-and_true false = refl
-
 -- three tests group either way
 and_again : (a b c : Bool) → (a && (b && c)) ≡ ((a && b) && c)
 and_again true b c = refl
@@ -71,7 +67,7 @@ and_again false b c = refl
 -- one more pivot
 begins_more : (p : List ℕ) (i n : ℕ) (xs : List ℕ) → length p < length xs → begins (p ++ i ∷ []) xs ≡ (begins p xs && nat_eq i (get_or xs (length p) n))
 begins_more [] i n [] lt = absurd (omega arith)
-begins_more [] i n (y ∷ xs) lt = and_true (nat_eq i y)
+begins_more [] i n (y ∷ xs) lt = and-true (nat_eq i y)
 begins_more (x ∷ p) i n [] lt = absurd (omega arith)
 begins_more (x ∷ p) i n (y ∷ xs) lt = ap (λ b. nat_eq x y && b) (begins_more p i n xs (omega arith)) ∙ and_again (nat_eq x y) (begins p xs) _
 
@@ -79,7 +75,7 @@ begins_more (x ∷ p) i n (y ∷ xs) lt = ap (λ b. nat_eq x y && b) (begins_mor
 range_none : (x a n : ℕ) → x < a → filter (λ i. nat_eq i x) (range_with_len a n) ≡ []
 range_none x a zero lt = refl
 range_none x a (suc n) lt =
-    let out : nat_eq a x ≡ false = not_true (nat_eq a x) (λ t. omega (arith, eqb-true a x t)) in
+    let out : nat_eq a x ≡ false = false_from_ne_true (nat_eq a x) (λ t. omega (arith, eqb-true a x t)) in
     rw out (range_none x (a + 1) n (omega arith))
 
 -- a number of a range stands in it once
@@ -120,7 +116,7 @@ module _ (n : ℕ) (perm : List ℕ) (is : IsPerm n perm) where
       rw (begins_more p i 0 perm (omega arith), h)
       ((elim (nat_eq i x) as P [
         | true ↦ λ t. let e : i ≡ x = eqb-true i x t in rw (e, new) refl
-        | false ↦ λ f. and_no (not (has i p)) false refl
+        | false ↦ λ f. and_right (not (has i p)) false refl
       ]) refl)
 
   -- of the children of a cell one begins a permutation that the cell begins, and none another
@@ -238,13 +234,8 @@ any_kept {X = X} t p imp (x ∷ xs) h =
     let Q : Bool → Type 0 = λ b. list_any t (filter p xs) ≡ true → list_any t (cond b (x ∷ filter p xs) (filter p xs)) ≡ true in
     (elim (t x) as P [
       | true ↦ λ e _. rw (imp x e, e) refl
-      | false ↦ λ e r. (elim (p x) as Q [ true ↦ λ k. rw k (or_true (t x)) | false ↦ λ k. k ]) (any_kept t p imp xs r)
+      | false ↦ λ e r. (elim (p x) as Q [ true ↦ λ k. rw k (or_right (t x) true refl) | false ↦ λ k. k ]) (any_kept t p imp xs r)
     ]) refl h
-
--- what is false or true is true
-or_no : (b : Bool) → (b || false) ≡ true → b ≡ true
-or_no true h = refl
-or_no false h = h
 
 module _ (g : Grid) (ok : IsGrid g) (log : List LogEvent) (legal : AllMaySplit g log) where
   -- the leaf that begins a permutation is its leaf
@@ -252,10 +243,10 @@ module _ (g : Grid) (ok : IsGrid g) (log : List LogEvent) (legal : AllMaySplit g
   leaf_is p v l h =
       let there : list_any (same_cell p) (filter (λ q. begins q (g.perm v)) (leaves g log)) ≡ true =
       any_kept (same_cell p) (λ q. begins q (g.perm v)) (λ q t. subst (λ (x : List ℕ). begins x (g.perm v) ≡ true) (same_cell_is p q t) h) (leaves g log) l in
-      same_cell_is p (leaf_of g log (g.perm v)) (or_no (same_cell p (leaf_of g log (g.perm v))) (rw (one_leaf g (g.perm v) (ok.perms v).0 (ok.perms v).1 ok log legal) at there))
+      same_cell_is p (leaf_of g log (g.perm v)) (sym (or-false (same_cell p (leaf_of g log (g.perm v)))) ∙ (rw (one_leaf g (g.perm v) (ok.perms v).0 (ok.perms v).1 ok log legal) at there))
 
   -- of two leaves one alone begins a permutation
   pub leaf_apart : (p q : List ℕ) (v : List ℤ) → is_leaf g log p ≡ true → is_leaf g log q ≡ true → same_cell p q ≡ false → begins q (g.perm v) ≡ true → begins p (g.perm v) ≡ false
-  leaf_apart p q v lp lq ne h = not_true (begins p (g.perm v)) (λ t.
+  leaf_apart p q v lp lq ne h = false_from_ne_true (begins p (g.perm v)) (λ t.
       let same : p ≡ q = leaf_is p v lp t ∙ sym (leaf_is q v lq h) in
       false≢true (sym ne ∙ subst (λ (x : List ℕ). same_cell p x ≡ true) same (same_self p)))

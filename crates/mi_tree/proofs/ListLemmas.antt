@@ -1,5 +1,5 @@
 -- Filters, maps and facts of each element.
-use Rattle.std.proofs.Common.{◌≡◌, List, [], ◌∷◌, ◌++◌, map, Bool, true, false, cond, ◌&&◌, ◌||◌, refl, sym, ap, ◌∙◌, subst}
+use Rattle.std.proofs.Common.{◌≡◌, List, [], ◌∷◌, ◌++◌, map, Bool, true, false, cond, ◌&&◌, refl, sym, ap, ◌∙◌, subst}
 use Rattle.std.specs.List.{AllByRecursion, filter, flat_map, list_all}
 use Rattle.std.proofs.lemmas.Bool.{and_parts}
 use Rattle.std.proofs.lemmas.List.{map-append}
@@ -35,20 +35,6 @@ module _ {X : Type 0} where
   all_any P imp [] = tt
   all_any P imp (x ∷ xs) = (imp x, all_any P imp xs)
 
-  -- what a test keeps passes it
-  pub all_passes : (p : X → Bool) (xs : List X) → AllByRecursion (λ x. p x ≡ true) (filter p xs)
-  all_passes p [] = tt
-  all_passes p (x ∷ xs) =
-      let P : Bool → Type 0 = λ b. p x ≡ b → AllByRecursion (λ y. p y ≡ true) (cond b (x ∷ filter p xs) (filter p xs)) in
-      (elim (p x) as P [ true ↦ λ e. (e, all_passes p xs) | false ↦ λ e. all_passes p xs ]) refl
-
-  -- what a test keeps has the facts of all
-  pub all_filter : (P : X → Type 0) (p : X → Bool) (xs : List X) → AllByRecursion P xs → AllByRecursion P (filter p xs)
-  all_filter P p [] h = tt
-  all_filter P p (x ∷ xs) h =
-      let Q : Bool → Type 0 = λ b. AllByRecursion P (cond b (x ∷ filter p xs) (filter p xs)) in
-      elim (p x) as Q [ true ↦ (h.0, all_filter P p xs h.1) | false ↦ all_filter P p xs h.1 ]
-
   -- a fact of what a map gives
   pub all_map : {Y : Type 0} (f : Y → X) (P : X → Type 0) (ys : List Y) → AllByRecursion (λ y. P (f y)) ys → AllByRecursion P (map f ys)
   all_map f P [] h = tt
@@ -66,21 +52,6 @@ module _ {X : Type 0} where
   map_twice f h [] = refl
   map_twice f h (x ∷ xs) = ap (λ ys. f (h x) ∷ ys) (map_twice f h xs)
 
--- what cannot be true is false
-pub not_true : (b : Bool) → (b ≡ true → ⊥) → b ≡ false
-not_true true h = absurd (h refl)
-not_true false h = refl
-
--- a false second test
-pub and_no : (a b : Bool) → b ≡ false → (a && b) ≡ false
-and_no true b e = e
-and_no false b e = refl
-
--- a true second test
-pub or_true : (b : Bool) → (b || true) ≡ true
-or_true true = refl
-or_true false = refl
-
 -- a fact of each element of two lists
 pub all_joined : {X : Type 0} (P : X → Type 0) (xs ys : List X) → AllByRecursion P xs → AllByRecursion P ys → AllByRecursion P (xs ++ ys)
 all_joined P [] ys a b = b
@@ -95,11 +66,6 @@ map_same f h (x ∷ xs) e = let a = e.0 in let r = map_same f h xs e.1 in cc
 pub map-flat : {X Y Z : Type 0} (f : Y → Z) (k : X → List Y) (xs : List X) → map f (flat_map k xs) ≡ flat_map (λ x. map f (k x)) xs
 map-flat f k [] = refl
 map-flat f k (x ∷ xs) = map-append f (k x) (flat_map k xs) ∙ ap (λ ys. map f (k x) ++ ys) (map-flat f k xs)
-
--- joined lists of what a map gives
-pub flat-map : {X Y Z : Type 0} (f : X → Y) (k : Y → List Z) (xs : List X) → flat_map k (map f xs) ≡ flat_map (λ x. k (f x)) xs
-flat-map f k [] = refl
-flat-map f k (x ∷ xs) = ap (λ ys. k (f x) ++ ys) (flat-map f k xs)
 
 -- maps that agree on each element join alike
 pub flat_same : {X Y : Type 0} (f k : X → List Y) (xs : List X) → AllByRecursion (λ x. f x ≡ k x) xs → flat_map f xs ≡ flat_map k xs

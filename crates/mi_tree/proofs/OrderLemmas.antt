@@ -1,13 +1,22 @@
 -- The leaves stand in dictionary order.
-use Rattle.std.proofs.Common.{◌≡◌, ℕ, suc, zero, ◌+◌, ◌<◌, List, [], ◌∷◌, ◌++◌, map, Bool, true, false, cond, not, ◌&&◌, ◌||◌, nat_eq, nat_lt, refl, sym, subst, arith}
+use Rattle.std.proofs.Common.{◌≡◌, ℕ, suc, zero, ◌+◌, ◌<◌, List, [], ◌∷◌, ◌++◌, map, Bool, true, false, cond, not, ◌&&◌, ◌||◌, nat_eq, nat_lt, refl, sym, ◌∙◌, subst, arith}
 use Rattle.std.specs.List.{AllByRecursion, filter, fold, flat_map, range_with_len, list_all}
+use Rattle.std.specs.declared.cmp.Ordering.TheVariants.{Less, Equal, Greater}
+use Rattle.std.specs.Cmp.Lexicographic.{slice_cmp}
+use Rattle.std.specs.List.Sorted.{IsStrictlySortedBy}
+use Rattle.std.specs.Ordering.{nat_cmp, ordering_then}
 use Rattle.std.proofs.lemmas.Bool.{lt-ltb, and_parts, eq-eqb, false≢true}
+use Rattle.std.proofs.lemmas.List.{map-id}
 use Rattle.mi_base.specs.declared.records.LogEvent.{LogEvent}
 use Rattle.mi_base.specs.declared.records.LogEvent.TheVariants.{Update as Made, Split}
 use Rattle.mi_base.specs.Prefixes.{has}
+use Rattle.mi_base.proofs.SortingLemmas.{filter_keeps}
 use Rattle.mi_tree.specs.Cells.{Grid, children, same_cell, split_cell, leaves_after, first_leaves, leaves}
+use Rattle.mi_tree.specs.declared.outcomes.Leaf.{Leaf}
+use Rattle.mi_tree.specs.Catalogs.{prefixes}
+use Rattle.mi_tree.specs.Counting.{cat, held, leaf_with}
 use Rattle.mi_tree.specs.Order.{before, in_order}
-use Rattle.mi_tree.proofs.ListLemmas.{all_weaker, all_filter, all_map, all_joined, all_from_test, test_from_all}
+use Rattle.mi_tree.proofs.ListLemmas.{all_weaker, all_map, map_twice, all_joined, all_from_test, test_from_all}
 use Rattle.mi_tree.proofs.LeafLemmas.{same_cell_is}
 
 -- each comes before all later ones
@@ -60,7 +69,7 @@ filter_ascends : (t : ℕ → Bool) (is : List ℕ) → Ascending is → Ascendi
 filter_ascends t [] a = tt
 filter_ascends t (i ∷ is) a =
     let P : Bool → Type 0 = λ b. Ascending (cond b (i ∷ filter t is) (filter t is)) in
-    elim (t i) as P [ true ↦ (all_filter _ t is a.0, filter_ascends t is a.1) | false ↦ filter_ascends t is a.1 ]
+    elim (t i) as P [ true ↦ (filter_keeps _ t is a.0, filter_ascends t is a.1) | false ↦ filter_ascends t is a.1 ]
 
 -- children stand in order
 children_in_order : (p : List ℕ) (is : List ℕ) → Ascending is → InOrder (map (λ i. p ++ i ∷ []) is)
@@ -185,3 +194,24 @@ split_keeps_order n p ls h = test_from_order _ (split_in_order n p ls (order_fro
 -- the first leaves pass the test
 pub first_leaves_in_order : (n : ℕ) → in_order (first_leaves n) ≡ true
 first_leaves_in_order n = test_from_order _ (first_in_order n)
+
+-- what comes before is less as slices are compared
+before_less : (p q : List ℕ) → before p q ≡ true → slice_cmp nat_cmp p q ≡ Less
+before_less [] q h = absurd (false≢true h)
+before_less (x ∷ p) [] h = absurd (false≢true h)
+before_less (x ∷ p) (y ∷ q) h =
+    let P : Bool → Bool → Type 0 = λ a b. (a || (b && before p q)) ≡ true → ordering_then (cond a Less (cond b Equal Greater)) (slice_cmp nat_cmp p q) ≡ Less in
+    let go : (a b : Bool) → P a b = elim [ true ↦ λ b k. refl | false ↦ elim [ true ↦ λ k. before_less p q k | false ↦ λ k. absurd (false≢true k) ] ] in
+    go (nat_lt x y) (nat_eq x y) h
+
+-- what stands in order ascends
+ascends : (ls : List (List ℕ)) → InOrder ls → IsStrictlySortedBy (slice_cmp nat_cmp) ls
+unfolding IsStrictlySortedBy
+ascends [] h = tt
+ascends (x ∷ ls) h = (all_weaker _ _ (λ y b. before_less x y b) ls h.0, ascends ls h.1)
+
+-- the prefixes of the counted leaves ascend
+pub cat_in_order : (g : Grid) (log : List LogEvent) → IsStrictlySortedBy (slice_cmp nat_cmp) (prefixes (cat g log))
+cat_in_order g log =
+    subst (IsStrictlySortedBy (slice_cmp nat_cmp)) (sym (map_twice (λ (l : Leaf). l.prefix) (leaf_with g (held g log)) (leaves g log) ∙ map-id (leaves g log)))
+    (ascends (leaves g log) (from_in_order g.pivots (first_leaves g.pivots) log (first_in_order g.pivots)))

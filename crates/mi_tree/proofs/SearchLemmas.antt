@@ -2,28 +2,13 @@
 use Rattle.std.proofs.Common.{◌≡◌, ℕ, suc, zero, ◌<◌, ◌≤◌, List, [], ◌∷◌, map, length, drop, get_or, Bool, true, false, cond, ◌&&◌, ◌||◌, nat_eq, nat_lt, refl, sym, ap, ◌∙◌, subst, arith}
 use Rattle.std.specs.List.{AllByRecursion, filter}
 use Rattle.std.specs.Prelude.{slice_set, All}
-use Rattle.std.proofs.lemmas.Bool.{and_parts, eqb-true, false≢true, ltb-true}
+use Rattle.std.proofs.lemmas.Bool.{and_parts, eqb-true, false≢true, false_from_ne_true, ltb-true}
+use Rattle.std.proofs.lemmas.List.{nil_from_length}
 use Rattle.std.proofs.lemmas.Bool.Decides.{nat_tests}
 use Rattle.std.proofs.lemmas.List.Elements.{All-from_recursion}
 use Rattle.mi_base.specs.Permutations.{begins}
 use Rattle.mi_tree.specs.Order.{before, in_order}
-use Rattle.mi_tree.proofs.ListLemmas.{not_true}
 use Rattle.mi_tree.proofs.OrderLemmas.{InOrder, order_from_test}
-
--- the next place of two lists
-pub before_step : (xs ys : List ℕ) (i : ℕ) → i < length xs → i < length ys
-    → before (drop i xs) (drop i ys) ≡ (nat_lt (get_or xs i 0) (get_or ys i 0) || (nat_eq (get_or xs i 0) (get_or ys i 0) && before (drop (suc i) xs) (drop (suc i) ys)))
-before_step [] ys i lt l = absurd (omega arith)
-before_step (x ∷ xs) [] i lt l = absurd (omega arith)
-before_step (x ∷ xs) (y ∷ ys) zero lt l = refl
-before_step (x ∷ xs) (y ∷ ys) (suc i) lt l = before_step xs ys i (omega arith) (omega arith)
-
--- nothing is left of a list past its end
-pub before_short : (xs ys : List ℕ) (i : ℕ) → length xs ≤ i → before (drop i xs) ys ≡ false
-before_short [] ys zero le = refl
-before_short [] ys (suc i) le = refl
-before_short (x ∷ xs) ys zero le = absurd (omega arith)
-before_short (x ∷ xs) ys (suc i) le = before_short xs ys i (omega arith)
 
 -- nothing comes before the empty list
 before_nil : (xs : List ℕ) → before xs [] ≡ false
@@ -39,7 +24,7 @@ before_end xs (y ∷ ys) (suc i) le = before_end xs ys i (omega arith)
 
 -- no number is below itself
 not_below : (x : ℕ) → nat_lt x x ≡ false
-not_below x = not_true (nat_lt x x) (λ t. omega (arith, ltb-true x x t))
+not_below x = false_from_ne_true (nat_lt x x) (λ t. omega (arith, ltb-true x x t))
 
 -- a list doesn't come before what begins it
 pub before_begun : (p xs : List ℕ) → begins p xs ≡ true → before xs p ≡ false
@@ -71,14 +56,14 @@ before_earlier (x ∷ p) (y ∷ q) (z ∷ xs) h k =
     (elim (nat_lt x y) as Q [
       | true ↦ λ t.
           let lt : x < y = ltb-true x y t in
-          let below : nat_lt z x ≡ false = not_true (nat_lt z x) (λ w. let v = ltb-true z x w in omega arith) in
-          let other : nat_eq z x ≡ false = not_true (nat_eq z x) (λ w. let v = eqb-true z x w in omega arith) in
+          let below : nat_lt z x ≡ false = false_from_ne_true (nat_lt z x) (λ w. let v = ltb-true z x w in omega arith) in
+          let other : nat_eq z x ≡ false = false_from_ne_true (nat_eq z x) (λ w. let v = eqb-true z x w in omega arith) in
           rw (below, other) refl
       | false ↦ λ f.
           let both = before_cases (nat_lt x y) (nat_eq x y) (before p q) h f in
           let same : x ≡ y = eqb-true x y both.0 in
           let rest : before xs p ≡ false = before_earlier p q xs both.1 parts.1 in
-          let below : nat_lt z x ≡ false = not_true (nat_lt z x) (λ w. let v = ltb-true z x w in omega arith) in
+          let below : nat_lt z x ≡ false = false_from_ne_true (nat_lt z x) (λ w. let v = ltb-true z x w in omega arith) in
           let R : Bool → Type 0 = λ b. (b && before xs p) ≡ false in
           rw below (elim (nat_eq z x) as R [ true ↦ rest | false ↦ refl ])
     ]) refl
@@ -95,17 +80,11 @@ before_later (x ∷ p) (y ∷ q) (z ∷ xs) h k =
     let go : (a b : Bool) → Q a b = elim [ true ↦ λ b w. refl | false ↦ elim [ true ↦ λ w. before_later p q xs w parts.1 | false ↦ λ w. w ] ] in
     subst (λ (n : ℕ). (nat_lt n y || (nat_eq n y && before xs q)) ≡ true) e (go (nat_lt x y) (nat_eq x y) h)
 
--- a fact of each element at a place
-all_at : {X : Type 0} (P : X → Type 0) (xs : List X) (i : ℕ) (d : X) → AllByRecursion P xs → i < length xs → P (get_or xs i d)
-all_at P [] i d h lt = absurd (omega arith)
-all_at P (x ∷ xs) zero d h lt = h.0
-all_at P (x ∷ xs) (suc i) d h lt = all_at P xs i d h.1 (omega arith)
-
 -- of two in order the earlier comes before the later
 ordered_at : (ls : List (List ℕ)) → InOrder ls → (i j : ℕ) → i < j → j < length ls → before (get_or ls i []) (get_or ls j []) ≡ true
 ordered_at [] h i j lt l = absurd (omega arith)
 ordered_at (x ∷ ls) h i zero lt l = absurd (omega arith)
-ordered_at (x ∷ ls) h zero (suc j) lt l = all_at (λ y. before x y ≡ true) ls j [] h.0 (omega arith)
+ordered_at (x ∷ ls) h zero (suc j) lt l = All-from_recursion (λ y. before x y ≡ true) ls h.0 j [] (omega arith)
 ordered_at (x ∷ ls) h (suc i) (suc j) lt l = ordered_at ls h.1 i j (omega arith) (omega arith)
 
 -- where each prefix that begins the list stands from low on and below high
@@ -145,11 +124,6 @@ some_passes {X = X} t (x ∷ xs) d h =
       | false ↦ λ e n. let r = some_passes t xs d n in (suc r.0, (let lt = r.1 in omega arith), r.2)
     ]) refl h
 
--- a list of no length
-none_left : {X : Type 0} (xs : List X) → length xs ≡ 0 → xs ≡ []
-none_left [] e = refl
-none_left (x ∷ xs) e = absurd (omega arith)
-
 -- what passes a test is kept
 passes_some : {X : Type 0} (t : X → Bool) (xs : List X) (k : ℕ) (d : X) → k < length xs → t (get_or xs k d) ≡ true → 0 < length (filter t xs)
 passes_some t [] k d lt h = absurd (omega arith)
@@ -163,7 +137,7 @@ pub only_one : {X : Type 0} (t : X → Bool) (xs : List X) (k : ℕ) (d : X) →
 only_one t [] k d lt h n = absurd (omega arith)
 only_one t (x ∷ xs) zero d lt h n =
     let cut : filter t (x ∷ xs) ≡ x ∷ filter t xs = rw h refl in
-    cut ∙ ap (λ ys. x ∷ ys) (none_left (filter t xs) (let m = ap length cut in omega arith))
+    cut ∙ ap (λ ys. x ∷ ys) (nil_from_length (filter t xs) (let m = ap length cut in omega arith))
 only_one {X = X} t (x ∷ xs) (suc k) d lt h n =
     let P : Bool → Type 0 = λ b. length (cond b (x ∷ filter t xs) (filter t xs)) ≡ 1 → cond b (x ∷ filter t xs) (filter t xs) ≡ get_or xs k d ∷ [] in
     (elim (t x) as P [
@@ -187,7 +161,7 @@ pub map_one : {X : Type 0} (t : X → Bool) (f : X → X) → ((x : X) → t x �
 map_one t f keep [] k d lt h n = absurd (omega arith)
 map_one t f keep (x ∷ xs) zero d lt h n =
     let cut : filter t (x ∷ xs) ≡ x ∷ filter t xs = rw h refl in
-    ap (λ ys. f x ∷ ys) (sym (map_none t f keep xs (none_left (filter t xs) (let m = ap length cut in omega arith))))
+    ap (λ ys. f x ∷ ys) (sym (map_none t f keep xs (nil_from_length (filter t xs) (let m = ap length cut in omega arith))))
 map_one {X = X} t f keep (x ∷ xs) (suc k) d lt h n =
     let P : Bool → Type 0 = λ b. t x ≡ b → length (cond b (x ∷ filter t xs) (filter t xs)) ≡ 1 → x ∷ slice_set xs k (f (get_or xs k d)) ≡ f x ∷ map f xs in
     (elim (t x) as P [

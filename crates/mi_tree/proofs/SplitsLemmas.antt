@@ -3,6 +3,7 @@ use Rattle.std.proofs.Common.{◌≡◌, ℕ, ◌+◌, ◌*◌, ◌≤◌, List,
 use Rattle.std.specs.Prelude.{◌==◌}
 use Rattle.std.specs.List.{filter, fold, sum_by}
 use Rattle.std.proofs.Math.ListN.{length-take}
+use Rattle.std.proofs.Math.Bool.{and_comm}
 use Rattle.std.proofs.Math.Nat.{mul-le-mul_right}
 use Rattle.std.proofs.lemmas.Bool.{eq-eqb}
 use Rattle.std.proofs.lemmas.Grind.{fold-append}
@@ -16,10 +17,11 @@ use Rattle.mi_base.specs.Permutations.{begins}
 use Rattle.mi_base.specs.Configuration.{Configuration}
 use Rattle.mi_base.specs.History.{Object, live, live_after, updates_of, splits_of}
 use Rattle.mi_base.proofs.HistoryLemmas.{updates_of-append}
+use Rattle.mi_base.proofs.LiveLemmas.{length_filter}
 use Rattle.mi_tree.specs.Cells.{Grid, IsGrid, depth, depth_after, is_leaf, MaySplit, AllMaySplit}
 use Rattle.mi_tree.specs.Counting.{belongs}
 use Rattle.mi_tree.specs.Legal.{MayFollow, EachMayFollow, LegalLog}
-use Rattle.mi_tree.proofs.ListLemmas.{all_any, all_joined}
+use Rattle.mi_tree.proofs.ListLemmas.{all_any, filter_same, filter_twice, all_joined}
 use Rattle.mi_tree.proofs.LeafLemmas.{leaf_is, step_deep}
 use Rattle.mi_tree.proofs.LegalLemmas.{grid, wanted, may_split, all_may, updates_of_split}
 
@@ -33,16 +35,10 @@ ever history = fold ever_after [] history
 
 -- a second test keeps no more
 fewer_both : (p q : Object → Bool) (os : List Object) → length (filter p (filter q os)) ≤ length (filter p os)
-fewer_both p q [] = omega arith
-fewer_both p q (o ∷ os) =
-    let r = fewer_both p q os in
-    let P : Bool → Type 0 = λ a. p o ≡ a → length (filter p (cond (q o) (o ∷ filter q os) (filter q os))) ≤ length (cond a (o ∷ filter p os) (filter p os)) in
-    let T : Bool → Type 0 = λ b. p o ≡ true → length (filter p (cond b (o ∷ filter q os) (filter q os))) ≤ length (o ∷ filter p os) in
-    let F : Bool → Type 0 = λ b. p o ≡ false → length (filter p (cond b (o ∷ filter q os) (filter q os))) ≤ length (filter p os) in
-    (elim (p o) as P [
-      | true ↦ elim (q o) as T [ true ↦ λ e. rw e (omega (arith, r)) | false ↦ λ e. omega (arith, r) ]
-      | false ↦ elim (q o) as F [ true ↦ λ e. rw e r | false ↦ λ e. r ]
-    ]) refl
+fewer_both p q os =
+    let same : filter p (filter q os) ≡ filter q (filter p os) =
+    filter_twice p q os ∙ filter_same (λ o. q o && p o) (λ o. p o && q o) os (all_any _ (λ o. and_comm (q o) (p o)) os) ∙ sym (filter_twice q p os) in
+    omega (arith, ap length same, length_filter q (filter p os))
 
 count_from : (p : Object → Bool) (os es : List Object) (us : List Update) → length (filter p os) ≤ length (filter p es) → length (filter p (fold live_after os us)) ≤ length (filter p (fold ever_after es us))
 count_from p os es [] h = h

@@ -79,7 +79,8 @@ impl Catalog {
         counts::take(&mut self.leaves[place]);
     }
 
-    /// Puts the children of the leaf with this prefix in its place. The objects are those of the leaf.
+    /// Puts the children of the leaf with this prefix in its place, each with those of the objects that belong to it. A
+    /// caller gives the live objects of the leaf; nothing is checked of them.
     pub fn split(
         &mut self,
         alloc: Global,

@@ -1,6 +1,9 @@
 //! What is true of cells, counts and hulls at every log. The functions do nothing.
 ghost use Rattle.std.specs.Prelude.{◌*◌, ◌≡◌, ◌==◌, ◌≤◌, ◌<◌, All, ◌++◌, [], ◌∷◌, ℕ, ℤ, List, length, map, flat_map, not, IsTrue, true};
+ghost use Rattle.std.specs.Cmp.Lexicographic.{slice_cmp};
 ghost use Rattle.std.specs.List.{filter, list_all};
+ghost use Rattle.std.specs.List.Sorted.{IsStrictlySortedBy};
+ghost use Rattle.std.specs.Ordering.{nat_cmp};
 ghost use Rattle.mi_base.specs.declared.records.LogEvent.{LogEvent};
 ghost use Rattle.mi_base.specs.declared.records.LogEvent.TheVariants.{Update as Made, Split};
 ghost use Rattle.mi_base.specs.declared.records.Update.TheVariants.{Insert, Delete};
@@ -12,6 +15,7 @@ ghost use Rattle.mi_base.specs.Sorting.{SameElements};
 ghost use Rattle.mi_base.specs.Space.{MetricSpace, Space};
 ghost use Rattle.mi_tree.specs.declared.counts.Placed.{Placed};
 ghost use Rattle.mi_tree.specs.Catalog.{catalog};
+ghost use Rattle.mi_tree.specs.Catalogs.{prefixes};
 ghost use Rattle.mi_tree.specs.Order.{in_order};
 ghost use Rattle.mi_tree.specs.Cells.{Grid, IsGrid, grid_of, first_leaves, leaves, is_leaf, leaf_of, AllMaySplit};
 ghost use Rattle.mi_tree.specs.Counting.{has_leaf, belongs, held, leaf_with, in_hull, cat, placed, added, removed, leaf_among, parted};
@@ -31,6 +35,11 @@ pub fn leaves_part_permutations()
 /// The leaves stand in dictionary order of their prefixes.
 pub fn leaves_are_in_order()
     ensures { (g : Grid) (log : List LogEvent) → in_order (leaves g log) ≡ true }
+{}
+
+/// The prefixes of the leaves with counts ascend strictly, as slices are compared.
+pub fn cat_ascends()
+    ensures { (g : Grid) (log : List LogEvent) → IsStrictlySortedBy (slice_cmp nat_cmp) (prefixes (cat g log)) }
 {}
 
 /// The hull of a leaf has the key distance of each object that was put into it, so of each live one that belongs to it.

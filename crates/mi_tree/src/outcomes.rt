@@ -3,8 +3,8 @@ ghost use Rattle.std.specs.Prelude.{◌≡◌, ◌≤◌};
 
 use mi_base::{Log, Prefix, Sequence, Transcript};
 
-/// A cell that isn't split: how many live objects belong to it, and the least interval of the key
-/// distances of all objects that were put into it.
+/// A cell at some time: how many live objects belong to it then, and the least interval of the key distances of all
+/// objects that were put into it until then.
 #[derive(Drop)]
 pub struct Leaf {
     pub prefix: Prefix,

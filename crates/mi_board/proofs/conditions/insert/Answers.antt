@@ -4,7 +4,7 @@ use Rattle.std.specs.List.{list_any}
 use Rattle.mi_base.specs.declared.records.LogEvent.{LogEvent}
 use Rattle.mi_base.specs.History.{Object, is_live, live, updates_of}
 use Rattle.mi_board.specs.declared.conditions.Live.{Live}
-use Rattle.mi_board.proofs.ConditionLemmas.{any_map}
+use Rattle.mi_tree.proofs.CountLemmas.{any_map}
 use Rattle.mi_board.proofs.conditions.insert.Goals as goal
 
 pub commit_insert-number-requires-clause-object : goal.commit_insert-number-requires-clause-object

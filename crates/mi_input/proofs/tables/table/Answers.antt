@@ -1,7 +1,9 @@
-use Rattle.std.proofs.Common.{◌<◌, ◌∷◌, [], length, ◌∙◌, sym, arith, length-append}
+use Rattle.std.proofs.Common.{◌<◌, ◌∷◌, [], codes, length, ◌∙◌, sym, arith, length-append}
 use Rattle.std.proofs.lemmas.Result.{err_from_is_err_and}
 use Rattle.mi_base.specs.Configuration.{IsTableRow}
-use Rattle.mi_input.proofs.TableLemmas.{each_push, first_more, first_stops, table_done, table_more, table_stops}
+use Rattle.mi_input.specs.Settings.{row_in}
+use Rattle.mi_input.proofs.RunLemmas.{run_done, run_more, run_stops}
+use Rattle.mi_input.proofs.TableLemmas.{each_push, first_more, first_stops}
 use Rattle.mi_input.proofs.tables.table.Goals as goal
 
 pub returns-in_err-next_row-clause-gives : goal.returns-in_err-next_row-clause-gives
@@ -25,7 +27,7 @@ pub returns-in_err-row-clause-gives : goal.returns-in_err-row-clause-gives
 returns-in_err-row-clause-gives c =
     let p = err_from_is_err_and c.from_residual-in_err-row.result c.from_residual-in_err-row.ensures.1 in
     let gives = rw c.len.ensures at c.in_err-row.ensures.gives in
-    let stops = table_stops c.loop-alloc.rows c.loop-alloc.records c.in_err-row.field-0.0 (sym c.at_word.ensures ∙ c.loop-alloc-test.true) gives in
+    let stops = run_stops (codes "row") row_in c.loop-alloc.rows c.loop-alloc.records c.in_err-row.field-0.0 (sym c.at_word.ensures ∙ c.loop-alloc-test.true) gives in
     rw (p.1, p.2, ← c.loop-alloc.invariant.so_far) stops
 
 pub loop-alloc-preserved : goal.loop-alloc-preserved
@@ -33,7 +35,7 @@ loop-alloc-preserved c =
     let rows = c.loop-alloc.rows in
     let row = c.in_ok-row.row in
     let gives = rw c.len.ensures at c.in_ok-row.ensures.gives in
-    let more = table_more rows c.loop-alloc.records c.next_row-in-loop-alloc.new.records row (sym c.at_word.ensures ∙ c.loop-alloc-test.true) gives in
+    let more = run_more (codes "row") row_in rows c.loop-alloc.records c.next_row-in-loop-alloc.new.records row (sym c.at_word.ensures ∙ c.loop-alloc-test.true) gives in
     let count = length-append rows (row ∷ []) in
     let below : length rows < 128 = rw c.len.ensures at c.in_ok-row.ensures.few in
     rw c.in_ok-push-2.ensures.ok record {
@@ -46,4 +48,4 @@ loop-alloc-preserved c =
 
 pub returns-clause-gives : goal.returns-clause-gives
 returns-clause-gives c =
-    sym c.loop-alloc.invariant.so_far ∙ table_done c.loop-alloc.rows c.loop-alloc.records (sym c.at_word.ensures ∙ c.loop-alloc-test.false)
+    sym c.loop-alloc.invariant.so_far ∙ run_done (codes "row") row_in c.loop-alloc.rows c.loop-alloc.records (sym c.at_word.ensures ∙ c.loop-alloc-test.false)

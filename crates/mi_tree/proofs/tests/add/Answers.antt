@@ -6,4 +6,4 @@ use Rattle.mi_tree.proofs.tests.add.Goals as goal
 
 pub add-requires-clause-room : goal.add-requires-clause-room
 add-requires-clause-room c =
-    one_decides (λ (l : Leaf). begins l.prefix c.args.perm.now) (λ l. l.count < 4294967295) c.args.catalog.now.leaves c.locate.result.now c.locate.ensures (let n = c.if-count-lt9.true in omega arith)
+    one_decides (λ (l : Leaf). begins l.prefix c.args.perm.now) (λ l. l.count < 4294967295) c.args.catalog.now.leaves c.locate-count.result c.locate-count.ensures (let n = c.if-count-lt1000.true in omega arith)

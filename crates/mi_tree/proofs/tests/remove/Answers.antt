@@ -6,4 +6,4 @@ use Rattle.mi_tree.proofs.tests.remove.Goals as goal
 
 pub remove-requires-clause-some : goal.remove-requires-clause-some
 remove-requires-clause-some c =
-    one_decides (λ (l : Leaf). begins l.prefix c.args.perm.now) (λ l. 0 < l.count) c.args.catalog.now.leaves c.locate.result.now c.locate.ensures (let n = c.if-count-gt0.true in omega arith)
+    one_decides (λ (l : Leaf). begins l.prefix c.args.perm.now) (λ l. 0 < l.count) c.args.catalog.now.leaves c.locate-count.result c.locate-count.ensures (let n = c.if-count-gt0.true in omega arith)
