@@ -8,10 +8,8 @@ ghost use Rattle.mindex.specs.Inputs.{names_in};
 
 mod adapters;
 mod loading;
-mod plain;
 mod refusals;
 mod replaying;
-mod running;
 #[cfg(test)]
 mod tests;
 mod texts;
