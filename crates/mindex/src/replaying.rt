@@ -39,7 +39,7 @@ fn replay_inputs<S: Sink>(alloc: Global, inputs: &Loaded, out: &mut S) -> u8
 }
 
 /// Sends the line of a call without inputs.
-fn stopped<S: Sink>(stop: Stop, out: &mut S) -> u8
+pub fn stopped<S: Sink>(stop: Stop, out: &mut S) -> u8
     ensures { Ends (stop_status stop) (stop_line stop) (S.faults out.old) (S.faults out.new) (S.written out.old) (S.written out.new) result }
 {
     match stop {
