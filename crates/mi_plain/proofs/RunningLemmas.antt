@@ -13,7 +13,7 @@ use Rattle.mi_tree.specs.declared.outcomes.Outcome.{Outcome}
 use Rattle.mi_tree.specs.Legal.{EachRight, Legal, LegalLog, NeverFalls, Settled, accepted, accepted_in, cells_of, reach}
 use Rattle.mi_tree.specs.InTurn.{AloneInTurn, InTurn, updates_after}
 use Rattle.mi_tree.specs.Right.{Right}
-use Rattle.mi_plain.specs.Answering.{Answers, Grows, GrowsBySplits, Ran, TellsBetween}
+use Rattle.mi_plain.specs.Answering.{Answers, Grows, GrowsBySplits, Ran}
 use Rattle.mi_plain.specs.Outcomes.{IsFinished, IsOutcomeOf, has_memory, is_memory}
 use Rattle.mi_plain.proofs.GrowingLemmas.{StaysFull, full_stays, length-updates_of, reach_grows, right_grows}
 

@@ -1,4 +1,4 @@
-use Rattle.std.proofs.Common.{◌≡◌, ◌∙◌, sym, ap, subst, arith, length, ◌<◌, ◌≤◌, ◌+◌, true, false, List, ℕ, Some, IsTrue, cond}
+use Rattle.std.proofs.Common.{◌≡◌, ◌∙◌, sym, ap, subst, arith, length, true, List, ℕ, Some, IsTrue}
 use Rattle.std.specs.Prelude.{slice_get}
 use Rattle.mi_base.specs.Prefixes.{all_below}
 use Rattle.mi_board.specs.Boards.{BoardState}

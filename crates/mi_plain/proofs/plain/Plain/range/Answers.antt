@@ -1,11 +1,11 @@
-use Rattle.std.proofs.Common.{◌≡◌, ◌+◌, ◌<◌, ◌≤◌, ◌^◌, ◌∙◌, ◌++◌, ◌∷◌, [], sym, ap, refl, subst, arith, length, List, ℕ, ℤ, IsTrue, append-nil}
+use Rattle.std.proofs.Common.{◌≡◌, ◌+◌, ◌≤◌, ◌∙◌, ◌++◌, sym, ap, refl, subst, arith, length, List, ℕ, ℤ, IsTrue, append-nil}
 use Rattle.std.specs.Prelude.{count_by, map}
 use Rattle.std.specs.List.{AllByRecursion}
 use Rattle.std.proofs.lemmas.List.{length-map}
 use Rattle.mi_base.specs.declared.records.Op.TheVariants.{Range}
 use Rattle.mi_base.specs.declared.records.Reply.{Reply}
-use Rattle.mi_base.specs.Space.{MetricSpace, Space}
-use Rattle.mi_base.specs.Configuration.{Configuration, metric_space, space_of}
+use Rattle.mi_base.specs.Space.{MetricSpace}
+use Rattle.mi_base.specs.Configuration.{metric_space, space_of}
 use Rattle.mi_base.specs.History.{live, updates_of}
 use Rattle.mi_base.specs.Permutations.{distances}
 use Rattle.mi_base.specs.Sorting.{SameElements}
@@ -15,8 +15,8 @@ use Rattle.mi_range.specs.Ranging.{Ranging, compared}
 use Rattle.mi_tree.specs.Legal.{cells_of}
 use Rattle.mi_tree.specs.Passing.{opened, passes}
 use Rattle.mi_plain.specs.Answering.{Answers}
-use Rattle.mi_plain.specs.Plain.{IsKept, IsPlain, object_in}
-use Rattle.mi_plain.proofs.RangeLemmas.{offerings, offered_hits, compared_few, length_live, rows_scanned, compared_candidates, range_answered}
+use Rattle.mi_plain.specs.Plain.{IsKept, object_in}
+use Rattle.mi_plain.proofs.RangeLemmas.{offerings, offered_hits, compared_few, length_live, range_answered}
 use Rattle.mi_plain.proofs.plain.Plain.range.Goals as goal
 
 pub loop-entry-init : goal.loop-entry-init
