@@ -10,7 +10,7 @@ use Rattle.mi_board.proofs.BoardLemmas.{is_grid}
 use Rattle.mi_key.specs.declared.entries.Entry.{Entry}
 use Rattle.mi_key.specs.declared.keys.KeyParts.{KeyParts}
 use Rattle.mi_key.specs.Clusters.{cluster_of}
-use Rattle.mi_key.specs.Keys.{key_of}
+use Rattle.mi_key.specs.Keys.{key_of, parts_of}
 use Rattle.mi_tree.specs.declared.outcomes.Leaf.{Leaf}
 use Rattle.mi_tree.specs.Cells.{Grid, leaf_of, leaves}
 use Rattle.mi_tree.specs.Counting.{beginning, held, leaf_with}
@@ -51,15 +51,17 @@ module _ (c : Configuration) (limits : IsWithinLimits c) (log : List LogEvent) (
 -- an entry that was made for the leaf of its vector
 pub made_kept : (c : Configuration) (log : List LogEvent) (id : ℕ) (v w : List ℤ) (dists : ArrayVec ℕ) (cluster distance birth key : ℕ) → IsTrue ((metric_space c).fits v) → dists.items ≡ distances (space_of c) v → birth ≤ c.updates
     → cluster ≡ cluster_of (length c.pivots) c.levels (leaf_of (grid_for c) log ((grid_for c).perm v)) → distance ≡ (grid_for c).distance v
-    → key ≡ key_of (record { cluster = cluster; distance = distance; id = id; birth = birth }) → w ≡ v
+    → key ≡ key_of (record { cluster = cluster; distance = distance; id = id; birth = birth }) → parts_of key ≡ record { cluster = cluster; distance = distance; id = id; birth = birth } → w ≡ v
     → IsKept c log id (record { key = key; vector = w; dists = dists; birth = birth; death = None })
-made_kept c log id v w dists cluster distance birth key fits dists_are born cluster_is distance_is key_is same =
+made_kept c log id v w dists cluster distance birth key fits dists_are born cluster_is distance_is key_is parts_are same =
     let kept : IsKept c log id (record { key = key; vector = v; dists = dists; birth = birth; death = None }) = record {
       fits = fits;
       dists_are = dists_are;
       born = born;
       key_is = key_is ∙ ap (λ (n : ℕ). key_of (record { cluster = n; distance = distance; id = id; birth = birth })) cluster_is
           ∙ ap (λ (n : ℕ). key_of (record { cluster = cluster_of (length c.pivots) c.levels (leaf_of (grid_for c) log ((grid_for c).perm v)); distance = n; id = id; birth = birth })) distance_is;
+      named = ap (λ (p : KeyParts). p.id) parts_are;
+      distance_is = ap (λ (p : KeyParts). p.distance) parts_are ∙ distance_is;
       lives = refl;
     } in
     subst (λ (x : List ℤ). IsKept c log id (record { key = key; vector = x; dists = dists; birth = birth; death = None })) (sym same) kept

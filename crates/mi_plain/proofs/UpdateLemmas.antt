@@ -51,6 +51,8 @@ kept_updated c log session op u id e h = record {
   dists_are = h.dists_are;
   born = h.born;
   key_is = h.key_is ∙ sym (key_updated c log session op u id e.vector e.birth);
+  named = h.named;
+  distance_is = h.distance_is;
   lives = h.lives;
 }
 

@@ -43,4 +43,4 @@ returns-clause-kept c =
     let distance : c.key_distance-distance.result ≡ g.distance v =
     c.key_distance-distance.ensures.value ∙ ap (λ p. distance_at_first c.args.dists.items p) c.permutation.ensures.value ∙ ap (λ (ds : List ℕ). key_distance ds) c.requires.dists in
     let born : birth ≤ s.settings.updates = omega (arith, c.requires.room, ap (λ p. p.updates) c.end-birth.ensures.end) in
-    made_kept s.settings s.log id v c.copy.result c.args.dists c.cluster_number-cluster.result c.key_distance-distance.result birth c.make.result c.requires.fits c.requires.dists born cluster distance c.make.ensures.number c.copy.ensures
+    made_kept s.settings s.log id v c.copy.result c.args.dists c.cluster_number-cluster.result c.key_distance-distance.result birth c.make.result c.requires.fits c.requires.dists born cluster distance c.make.ensures.number c.make.ensures.parts c.copy.ensures
