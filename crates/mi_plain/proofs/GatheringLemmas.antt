@@ -1,11 +1,11 @@
 -- The live objects of a leaf, as its entries tell them.
-use Rattle.std.proofs.Common.{◌≡◌, ℕ, ℤ, ◌++◌, List, [], ◌∷◌, map, length, Bool, true, false, cond, refl, sym, ap, ◌∙◌, subst, append_assoc, append-nil}
+use Rattle.std.proofs.Common.{◌≡◌, ℕ, ℤ, ◌++◌, List, [], ◌∷◌, map, Bool, true, false, cond, refl, sym, ap, ◌∙◌, subst, append_assoc}
 use Rattle.std.specs.List.{filter, AllByRecursion}
 use Rattle.std.specs.Map.{values_of}
 use Rattle.mi_base.specs.declared.records.LogEvent.{LogEvent}
 use Rattle.mi_base.specs.Configuration.{Configuration}
 use Rattle.mi_base.specs.History.{Object, live, updates_of}
-use Rattle.mi_base.specs.Permutations.{begins, distance_at_first, key_distance, permutation_of}
+use Rattle.mi_base.specs.Permutations.{begins, key_distance, permutation_of}
 use Rattle.mi_base.specs.Sorting.{SameElements}
 use Rattle.mi_base.proofs.SortingLemmas.{same_filter, same_map}
 use Rattle.mi_board.specs.Boards.{BoardState, grid_in}

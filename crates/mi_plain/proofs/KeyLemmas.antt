@@ -1,5 +1,5 @@
 -- Keys of entries.
-use Rattle.std.proofs.Common.{◌≡◌, ℕ, zero, suc, ◌<◌, ◌^◌, List, [], ◌∷◌, length, take, ◌&&◌, IsTrue, nat_le, nat_lt, refl, sym, ap, subst, arith}
+use Rattle.std.proofs.Common.{◌≡◌, ℕ, zero, suc, ◌<◌, ◌^◌, List, [], ◌∷◌, length, take, ◌&&◌, IsTrue, nat_le, nat_lt, refl, subst, arith}
 use Rattle.std.proofs.lemmas.Bool.{and_from, and_parts}
 use Rattle.mi_base.specs.Permutations.{is_permutation}
 use Rattle.mi_base.specs.Prefixes.{all_below, are_different}

@@ -1,5 +1,5 @@
 -- The list after a split of a leaf.
-use Rattle.std.proofs.Common.{◌≡◌, ℕ, ℤ, ◌+◌, ◌<◌, ◌≤◌, ◌^◌, ◌++◌, List, [], ◌∷◌, map, length, take, Bool, true, false, cond, ◌&&◌, nat_le, IsTrue, refl, sym, ap, ◌∙◌, subst, arith}
+use Rattle.std.proofs.Common.{◌≡◌, ℕ, ℤ, ◌+◌, ◌<◌, ◌≤◌, ◌^◌, ◌++◌, List, [], ◌∷◌, map, length, take, Bool, true, false, cond, ◌&&◌, nat_le, refl, sym, ap, ◌∙◌, subst, arith}
 use Rattle.std.specs.List.{AllByRecursion}
 use Rattle.std.proofs.Math.ListN.{length-take}
 use Rattle.std.proofs.lemmas.Bool.Decides.{nat_tests}
@@ -8,12 +8,13 @@ use Rattle.mi_base.specs.declared.records.LogEvent.{LogEvent}
 use Rattle.mi_base.specs.declared.records.LogEvent.TheVariants.{Split}
 use Rattle.mi_base.specs.Configuration.{Configuration, IsWithinLimits, space_of}
 use Rattle.mi_base.specs.History.{Object, live, updates_of}
-use Rattle.mi_base.specs.Permutations.{begins, distances, permutation_of}
+use Rattle.mi_base.specs.Permutations.{begins, permutation_of}
 use Rattle.mi_base.specs.Sorting.{SameElements}
 use Rattle.mi_board.specs.declared.actors.ActorState.{ActorState}
 use Rattle.mi_board.specs.Actors.{change, released}
 use Rattle.mi_board.specs.Boards.{BoardState, with_actor, with_split}
 use Rattle.mi_board.proofs.ActorLemmas.{length-change}
+use Rattle.mi_board.proofs.StepLemmas.{state}
 use Rattle.mi_key.specs.declared.entries.Entry.{Entry}
 use Rattle.mi_key.specs.declared.keys.KeyParts.{KeyParts}
 use Rattle.mi_key.specs.Clusters.{cluster_of}
@@ -22,13 +23,12 @@ use Rattle.mi_key.proofs.ClusterLemmas.{cluster-small}
 use Rattle.mi_key.proofs.KeyLemmas.{made_of, parts_of-key_of}
 use Rattle.mi_plain.specs.Plain.{IsKept, IsPlain, child_key, grid_for, leaf_key, moves, object_in, rekeyed}
 use Rattle.mi_plain.proofs.KeyLemmas.{all_below-permutation, distance_fits, id_fits}
-use Rattle.mi_tree.specs.Cells.{Grid, IsGrid, AllMaySplit, depth, leaf_of}
-use Rattle.mi_tree.specs.Counting.{belongs}
+use Rattle.mi_tree.specs.Cells.{IsGrid, depth, leaf_of}
 use Rattle.mi_tree.specs.Legal.{LegalLog, MayFollow}
 use Rattle.mi_tree.proofs.CatalogLemmas.{depth_is}
 use Rattle.mi_tree.proofs.GridLemmas.{space_is_grid}
 use Rattle.mi_tree.proofs.LeafLemmas.{leaf_is}
-use Rattle.mi_tree.proofs.LegalLemmas.{grid, all_may, updates_of_split, wanted}
+use Rattle.mi_tree.proofs.LegalLemmas.{all_may, updates_of_split, wanted}
 use Rattle.mi_tree.proofs.SplitsLemmas.{deeper, depth_within}
 
 -- what the key of an object is made of in its leaf
@@ -176,17 +176,20 @@ objects_stay p levels (e ∷ es) =
     cc
 
 module _ (b : BoardState) (pivots : List (List ℤ)) (levels cell : ℕ) (entries : List (ℕ × Entry)) (is : IsPlain b pivots levels cell entries) where
-  -- a claim that ends
-  pub plain_released : (actor : ℕ) → IsPlain (with_actor released actor b) pivots levels cell entries
-  plain_released actor = record {
+  -- a claim, a release or a sweep
+  pub plain_beside : (actors : List ActorState) (retired : List (List ℕ)) → length actors ≡ 2 → IsPlain (state b.settings b.log actors retired) pivots levels cell entries
+  plain_beside actors retired two = record {
     limits = is.limits;
     pivots_are = is.pivots_are;
     levels_are = is.levels_are;
     cell_is = is.cell_is;
-    two = length-change released actor b.actors ∙ is.two;
+    two = two;
     same = is.same;
     kept = is.kept;
   }
+
+  pub plain_actor : (f : ActorState → ActorState) (actor : ℕ) → IsPlain (with_actor f actor b) pivots levels cell entries
+  plain_actor f actor = plain_beside (change f actor b.actors) b.retired (length-change f actor b.actors ∙ is.two)
 
   -- a leaf that was split
   pub plain_split : (actor : ℕ) (p : List ℕ) → LegalLog b.settings b.log → MayFollow b.settings b.log (Split p) → IsPlain (with_split p actor b) pivots levels cell (map (λ e. (e.0, rekeyed p levels e.1)) entries)

@@ -283,6 +283,7 @@ impl Plain {
         ensures ok { OnOk result (self.new ≡ with_split leaf.now.prefix actor self.old) }
         ensures err { OnErr result (self.new ≡ with_actor released actor self.old) }
         ensures pivots { 1 ≤ length self.old.settings.pivots }
+        ensures legal { LegalLog self.old.settings self.old.log }
     {
         // The end of the log tells that it is legal.
         let _ = self.end();

@@ -1,11 +1,11 @@
-use Rattle.std.proofs.Common.{rules, ◌≡◌, ◌≤◌, ◌∷◌, ◌∙◌, ℕ, List, length, map, sym, subst, ap, refl, Some}
+use Rattle.std.proofs.Common.{rules, ◌≡◌, ◌≤◌, ◌∙◌, ℕ, List, length, map, sym, subst, ap}
 use Rattle.std.proofs.lemmas.Map.Made.{map_same_pairs}
 use Rattle.mi_base.specs.declared.records.LogEvent.TheVariants.{Split}
-use Rattle.mi_board.specs.Actors.{actor_at, released}
+use Rattle.mi_board.specs.Actors.{released}
 use Rattle.mi_board.specs.Boards.{BoardState, leaf_claimed, prefix_or, with_actor, with_split}
 use Rattle.mi_key.specs.declared.entries.Entry.{Entry}
 use Rattle.mi_plain.specs.Plain.{IsPlain, rekeyed}
-use Rattle.mi_plain.proofs.SplittingLemmas.{plain_released, plain_split, some_pivots}
+use Rattle.mi_plain.proofs.SplittingLemmas.{plain_actor, plain_split, some_pivots}
 use Rattle.mi_tree.specs.Legal.{LegalLog, MayFollow}
 use Rattle.mi_plain.proofs.plain.Plain.split.Goals as goal
 
@@ -13,7 +13,7 @@ pub invariant_of-self : goal.invariant_of-self
 invariant_of-self c =
     let i = c.self.inside in
     let P : BoardState → Type 0 = λ x. IsPlain x i.pivots i.levels i.cell i.entries.entries in
-    subst P (sym c.release_leaf.ensures) (plain_released i.board i.pivots i.levels i.cell i.entries.entries c.self.invariant c.args.actor)
+    subst P (sym c.release_leaf.ensures) (plain_actor i.board i.pivots i.levels i.cell i.entries.entries c.self.invariant released c.args.actor)
 
 pub returns-in_default-clause-pivots : goal.returns-in_default-clause-pivots
 returns-in_default-clause-pivots c =
@@ -28,7 +28,7 @@ invariant_of-self-in_default-publish c =
     let P : BoardState → Type 0 = λ x. IsPlain x i.pivots i.levels i.cell i.entries.entries in
     let same : c.publish.new.self ≡ i.board = c.in_default-publish.ensures in
     subst P (sym (c.release_leaf-in_default-publish.ensures ∙ ap (with_actor released c.args.actor) same))
-    (plain_released i.board i.pivots i.levels i.cell i.entries.entries c.self.invariant c.args.actor)
+    (plain_actor i.board i.pivots i.levels i.cell i.entries.entries c.self.invariant released c.args.actor)
 
 pub returns-in_default-publish-clause-pivots : goal.returns-in_default-publish-clause-pivots
 returns-in_default-publish-clause-pivots c =
