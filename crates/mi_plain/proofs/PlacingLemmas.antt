@@ -51,12 +51,8 @@ module _ (c : Configuration) (limits : IsWithinLimits c) (log : List LogEvent) (
 -- an entry that was made for the leaf of its vector
 pub made_kept : (c : Configuration) (log : List LogEvent) (id : ℕ) (v w : List ℤ) (dists : ArrayVec ℕ) (cluster distance birth key : ℕ) → IsTrue ((metric_space c).fits v) → dists.items ≡ distances (space_of c) v → birth ≤ c.updates
     → cluster ≡ cluster_of (length c.pivots) c.levels (leaf_of (grid_for c) log ((grid_for c).perm v)) → distance ≡ (grid_for c).distance v
-<<<<<<< HEAD
-    → key ≡ key_of (record { cluster = cluster; distance = distance; id = id; birth = birth }) → parts_of key ≡ record { cluster = cluster; distance = distance; id = id; birth = birth } → w ≡ v
-=======
     → key ≡ key_of (record { cluster = cluster; distance = distance; id = id; birth = birth })
     → parts_of key ≡ record { cluster = cluster; distance = distance; id = id; birth = birth } → w ≡ v
->>>>>>> c98f50b9c7fb254243746bf1e9593379286a4d3e
     → IsKept c log id (record { key = key; vector = w; dists = dists; birth = birth; death = None })
 made_kept c log id v w dists cluster distance birth key fits dists_are born cluster_is distance_is key_is parts_are same =
     let kept : IsKept c log id (record { key = key; vector = v; dists = dists; birth = birth; death = None }) = record {
