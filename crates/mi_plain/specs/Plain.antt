@@ -1,5 +1,5 @@
 -- The plain list: what contracts see of it, and how it keeps that.
-use Rattle.std.specs.Prelude.{◌≡◌, ◌+◌, ◌-◌, ◌*◌, ◌≤◌, ◌&&◌, ℕ, ℤ, Bool, IsTrue, List, cond, map, length, take, None, Option, nat_le}
+use Rattle.std.specs.Prelude.{◌≡◌, ◌+◌, ◌-◌, ◌*◌, ◌≤◌, ◌&&◌, ℕ, ℤ, Bool, IsTrue, List, cond, map, length, take, None, nat_le}
 use Rattle.std.specs.List.{AllByRecursion}
 use Rattle.mi_base.specs.declared.records.LogEvent.{LogEvent}
 use Rattle.mi_base.specs.Configuration.{Configuration, IsWithinLimits, metric_space, space_of}
@@ -9,7 +9,6 @@ use Rattle.mi_base.specs.Sorting.{SameElements}
 use Rattle.mi_board.specs.Actors.{actor_at}
 use Rattle.mi_board.specs.Boards.{BoardState}
 use Rattle.mi_key.specs.declared.entries.Entry.{Entry}
-use Rattle.mi_key.specs.declared.keys.KeyParts.{KeyParts}
 use Rattle.mi_key.specs.Clusters.{cluster_of}
 use Rattle.mi_key.specs.Keys.{key_of, parts_of}
 use Rattle.mi_tree.specs.Cells.{Grid, grid_of, leaf_of}
@@ -37,6 +36,8 @@ pub record IsKept (c : Configuration) (log : List LogEvent) (id : ℕ) (e : Entr
   pub dists_are : e.dists.items ≡ distances (space_of c) e.vector
   pub born : e.birth ≤ c.updates
   pub key_is : e.key ≡ leaf_key c log id e.vector e.birth
+  pub named : (parts_of e.key).id ≡ id
+  pub distance_is : (parts_of e.key).distance ≡ (grid_for c).distance e.vector
   pub lives : e.death ≡ None
 
 -- the map has the live objects, each under the key of its leaf, beside a board of a session and a splitter

@@ -87,7 +87,7 @@ module _ (g : Grid) (ok : IsGrid g) (log : List LogEvent) (may : AllMaySplit g l
       )
 
   -- a split takes each that belongs to its leaf one deeper
-  deeper : (p : List ℕ) (o : Object) → is_leaf g log p ≡ true → depth g (log ++ Split p ∷ []) (g.perm o.vector) ≡ depth g log (g.perm o.vector) + cond (belongs g p o) 1 0
+  pub deeper : (p : List ℕ) (o : Object) → is_leaf g log p ≡ true → depth g (log ++ Split p ∷ []) (g.perm o.vector) ≡ depth g log (g.perm o.vector) + cond (belongs g p o) 1 0
   deeper p o leaf =
       let perm = g.perm o.vector in
       let d = depth g log perm in

@@ -1,0 +1,129 @@
+-- What the splitter finds to do.
+use Rattle.std.proofs.Common.{nat_le, nat_lt, ◌≡◌, ℕ, ℤ, ◌+◌, ◌-◌, ◌*◌, ◌<◌, ◌≤◌, ◌++◌, List, [], ◌∷◌, map, length, Bool, true, false, cond, not, ◌&&◌, ◌||◌, Option, Some, None, refl, sym, ap, ◌∙◌, subst, arith, length-append}
+use Rattle.std.specs.List.{filter, find, list_any}
+use Rattle.std.proofs.lemmas.Bool.{and_from, and_parts, or_right}
+use Rattle.std.proofs.lemmas.Bool.Decides.{nat_tests}
+use Rattle.mi_base.specs.declared.records.LogEvent.{LogEvent}
+use Rattle.mi_base.specs.declared.records.LogEvent.TheVariants.{Split}
+use Rattle.mi_base.specs.Configuration.{Configuration, IsWithinLimits}
+use Rattle.mi_base.specs.History.{live, splits_of, updates_of}
+use Rattle.mi_base.specs.Permutations.{begins}
+use Rattle.mi_base.proofs.HistoryLemmas.{few_updates}
+use Rattle.mi_board.specs.declared.actors.ActorState.{ActorState}
+use Rattle.mi_board.specs.Actors.{actor_at, change, claiming, is_claim, is_claimed, released}
+use Rattle.mi_board.specs.Boards.{BoardState, first_wanted, is_free}
+use Rattle.mi_board.proofs.BoardLemmas.{split_legal}
+use Rattle.mi_key.specs.declared.entries.Entry.{Entry}
+use Rattle.mi_plain.specs.Plain.{IsPlain, NoClaims}
+use Rattle.mi_plain.proofs.SplittingLemmas.{config_grid}
+use Rattle.mi_tree.specs.declared.outcomes.Leaf.{Leaf}
+use Rattle.mi_tree.specs.declared.counts.Placed.{Placed}
+use Rattle.mi_tree.specs.Cells.{same_cell}
+use Rattle.mi_tree.specs.Counting.{beginning, belongs, is_crowded, is_splittable, is_wanted, placed}
+use Rattle.mi_tree.specs.Legal.{LegalLog, MayFollow, Settled, cells_of}
+use Rattle.mi_tree.proofs.LeafLemmas.{same_self}
+use Rattle.mi_tree.proofs.LegalLemmas.{grid, updates_of_split}
+use Rattle.mi_tree.proofs.SplitsLemmas.{few_splits}
+
+-- a claim of none
+no_claim : (p : List ℕ) (o : Option (List ℕ)) → o ≡ None → is_claim p o ≡ false
+no_claim p o h = ap (is_claim p) h
+
+-- where neither actor claims a leaf, nobody does
+pub unclaimed : (actors : List ActorState) → length actors ≡ 2 → (actor_at actors 0).claim ≡ None → (actor_at actors 1).claim ≡ None → (p : List ℕ) → is_claimed p actors ≡ false
+unclaimed [] two f s p = absurd (omega (arith, two))
+unclaimed (a ∷ []) two f s p = absurd (omega (arith, two))
+unclaimed (a ∷ b ∷ []) two f s p = rw (no_claim p a.claim f, no_claim p b.claim s) refl
+unclaimed (a ∷ b ∷ c ∷ rest) two f s p = absurd (omega (arith, two))
+
+-- a leaf that is found is to be split
+pub found_wanted : (b : BoardState) (ls : List Leaf) (leaf : Leaf) → find (is_free b) ls ≡ Some leaf
+    → list_any (λ l. same_cell leaf.prefix l.prefix && is_wanted b.settings.levels b.settings.cell l) ls ≡ true
+found_wanted b [] leaf h = cc
+found_wanted b (l ∷ ls) leaf h =
+    let T : Leaf → Bool = λ x. same_cell leaf.prefix x.prefix && is_wanted b.settings.levels b.settings.cell x in
+    let P : Bool → Type 0 = λ t. is_free b l ≡ t → cond t (Some l) (find (is_free b) ls) ≡ Some leaf → (T l || list_any T ls) ≡ true in
+    (elim (is_free b l) as P [
+      | true ↦ λ e k.
+          let same : l ≡ leaf = cc in
+          let is = (and_parts (is_wanted b.settings.levels b.settings.cell l) (not (is_claimed l.prefix b.actors)) e).0 in
+          let here : same_cell leaf.prefix l.prefix ≡ true = subst (λ (x : Leaf). same_cell x.prefix l.prefix ≡ true) same (same_self l.prefix) in
+          rw (here, is) refl
+      | false ↦ λ e k. or_right (T l) (list_any T ls) (found_wanted b ls leaf k)
+    ]) refl h
+
+-- a leaf that begins a permutation is to be split, where it is wanted
+pub beginning_wanted : (levels cell : ℕ) (perm : List ℕ) (ls : List Leaf) (leaf : Leaf) → beginning perm ls ≡ leaf ∷ [] → is_wanted levels cell leaf ≡ true
+    → list_any (λ l. same_cell leaf.prefix l.prefix && is_wanted levels cell l) ls ≡ true
+beginning_wanted levels cell perm [] leaf h w = cc
+beginning_wanted levels cell perm (l ∷ ls) leaf h w =
+    let T : Leaf → Bool = λ x. same_cell leaf.prefix x.prefix && is_wanted levels cell x in
+    let P : Bool → Type 0 = λ t. cond t (l ∷ beginning perm ls) (beginning perm ls) ≡ leaf ∷ [] → (T l || list_any T ls) ≡ true in
+    (elim (begins l.prefix perm) as P [
+      | true ↦ λ k.
+          let same : l ≡ leaf = cc in
+          let here : same_cell leaf.prefix l.prefix ≡ true = subst (λ (x : Leaf). same_cell leaf.prefix x.prefix ≡ true) (sym same) (same_self leaf.prefix) in
+          let is : is_wanted levels cell l ≡ true = ap (is_wanted levels cell) same ∙ w in
+          rw (here, is) refl
+      | false ↦ λ k. or_right (T l) (list_any T ls) (beginning_wanted levels cell perm ls leaf k w)
+    ]) h
+
+-- where no free leaf is to be split and all are free, none is to be split
+pub none_wanted : (b : BoardState) → ((p : List ℕ) → is_claimed p b.actors ≡ false) → (ls : List Leaf) → find (is_free b) ls ≡ None → list_any (is_wanted b.settings.levels b.settings.cell) ls ≡ false
+none_wanted b free [] h = refl
+none_wanted b free (l ∷ ls) h =
+    let W = is_wanted b.settings.levels b.settings.cell l in
+    let C = is_claimed l.prefix b.actors in
+    let P : Bool → Type 0 = λ w. cond (w && not C) (Some l) (find (is_free b) ls) ≡ None → (w || list_any (is_wanted b.settings.levels b.settings.cell) ls) ≡ false in
+    (elim W as P [
+      | true ↦ λ k. let k2 : cond (true && not false) (Some l) (find (is_free b) ls) ≡ None = subst (λ (x : Bool). cond (true && not x) (Some l) (find (is_free b) ls) ≡ None) (free l.prefix) k in cc
+      | false ↦ λ k. none_wanted b free ls k
+    ]) h
+
+-- a split leaves less to do
+pub less_work : (c : Configuration) (limits : IsWithinLimits c) (log : List LogEvent) (p : List ℕ) (n : ℕ) → LegalLog c log → MayFollow c log (Split p)
+    → 2 * (c.updates * c.levels - splits_of (log ++ Split p ∷ [])) + (n + 1) < 2 * (c.updates * c.levels - splits_of log) + n
+less_work c limits log p n legal may =
+    let g = grid c in
+    let objects : List Placed = map (placed g) (filter (belongs g p) (live (updates_of log))) in
+    let legal' : LegalLog c (log ++ Split p ∷ []) = split_legal c limits log legal p may objects (record { sums = λ f. refl }) in
+    omega (
+      arith,
+      few_splits c (log ++ Split p ∷ []) (config_grid c limits) legal',
+      length-append log (Split p ∷ []),
+      ap length (updates_of_split log p),
+      few_updates log,
+    )
+
+-- a crowded leaf is to be split
+pub crowded_wanted : (levels cell : ℕ) (leaf : Leaf) → 1 ≤ cell → is_crowded levels cell leaf ≡ true → is_wanted levels cell leaf ≡ true
+crowded_wanted levels cell leaf some h =
+    let parts = and_parts (is_splittable levels leaf) (nat_le (4 * cell) leaf.count) h in
+    let full : nat_le (4 * cell) leaf.count ≡ true = parts.1 in
+    let more : nat_lt cell leaf.count ≡ true = grind (arith, nat_tests) in
+    and_from (is_splittable levels leaf) (nat_lt cell leaf.count) parts.0 more
+
+-- a claim of the first actor that ends in a split leaves none, where there was none, and the reservation as it was
+pub none_after : (p : List ℕ) (actors : List ActorState) → (actor_at actors 0).claim ≡ None → (actor_at actors 1).claim ≡ None
+    → ((actor_at (change released 0 (change (claiming p) 0 actors)) 0).claim ≡ None) × ((actor_at (change released 0 (change (claiming p) 0 actors)) 1).claim ≡ None)
+none_after p [] f s = (refl, refl)
+none_after p (a ∷ actors) f s = (refl, s)
+
+pub reserved_after : (p : List ℕ) (actors : List ActorState) → (actor_at (change released 0 (change (claiming p) 0 actors)) 0).reserved ≡ (actor_at actors 0).reserved
+reserved_after p [] = refl
+reserved_after p (a ∷ actors) = refl
+
+module _ (b : BoardState) (pivots : List (List ℤ)) (levels cell : ℕ) (entries : List (ℕ × Entry)) (is : IsPlain b pivots levels cell entries) where
+  -- nothing to do
+  pub settled : NoClaims b → first_wanted b ≡ None → Settled b.settings b.log
+  settled idle none = none_wanted b (unclaimed b.actors is.two idle.0 idle.1) (cells_of b.settings b.log) none
+
+  -- the test of the leaf of a permutation
+  pub crowded_is : (leaf : Leaf) → is_crowded b.settings.levels b.settings.cell leaf ≡ is_crowded levels cell leaf
+  crowded_is leaf = ap (λ (n : ℕ). is_crowded n b.settings.cell leaf) (sym is.levels_are) ∙ ap (λ (n : ℕ). is_crowded levels n leaf) (sym is.cell_is)
+
+  -- a crowded leaf may be split
+  pub crowded_may : (perm : List ℕ) (leaf : Leaf) → beginning perm (cells_of b.settings b.log) ≡ leaf ∷ [] → is_crowded levels cell leaf ≡ true → MayFollow b.settings b.log (Split leaf.prefix)
+  crowded_may perm leaf one full =
+      beginning_wanted b.settings.levels b.settings.cell perm (cells_of b.settings b.log) leaf one
+      (crowded_wanted b.settings.levels b.settings.cell leaf is.limits.cell.0 (crowded_is leaf ∙ full))

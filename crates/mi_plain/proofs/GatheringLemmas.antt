@@ -1,0 +1,66 @@
+-- The live objects of a leaf, as its entries tell them.
+use Rattle.std.proofs.Common.{◌≡◌, ℕ, ℤ, ◌++◌, List, [], ◌∷◌, map, Bool, true, false, cond, refl, sym, ap, ◌∙◌, subst, append_assoc}
+use Rattle.std.specs.List.{filter, AllByRecursion}
+use Rattle.std.specs.Map.{values_of}
+use Rattle.mi_base.specs.declared.records.LogEvent.{LogEvent}
+use Rattle.mi_base.specs.Configuration.{Configuration}
+use Rattle.mi_base.specs.History.{Object, live, updates_of}
+use Rattle.mi_base.specs.Permutations.{begins, key_distance, permutation_of}
+use Rattle.mi_base.specs.Sorting.{SameElements}
+use Rattle.mi_base.proofs.SortingLemmas.{same_filter, same_map}
+use Rattle.mi_board.specs.Boards.{BoardState, grid_in}
+use Rattle.mi_key.specs.declared.entries.Entry.{Entry}
+use Rattle.mi_plain.specs.Plain.{IsKept, IsPlain, grid_for, object_in}
+use Rattle.mi_tree.specs.declared.counts.Placed.{Placed}
+use Rattle.mi_tree.specs.Counting.{belongs, placed}
+
+-- an entry as a catalog is told of it
+abbrev pub placed_entry : Entry → Placed
+placed_entry e = record { perm = permutation_of e.dists.items; distance = key_distance e.dists.items }
+
+abbrev pub entry_begins : List ℕ → Entry → Bool
+entry_begins p e = begins p (permutation_of e.dists.items)
+
+-- the entries of a leaf
+abbrev pub gathered : List ℕ → List Entry → List Placed
+gathered p es = map placed_entry (filter (entry_begins p) es)
+
+-- one entry more that begins with the prefix, or another
+pub gather_in : (p : List ℕ) (e : Entry) (es : List Entry) → entry_begins p e ≡ true → gathered p (e ∷ es) ≡ placed_entry e ∷ gathered p es
+gather_in p e es h = rw h refl
+
+pub gather_out : (p : List ℕ) (e : Entry) (es : List Entry) → entry_begins p e ≡ false → gathered p (e ∷ es) ≡ gathered p es
+gather_out p e es h = rw h refl
+
+-- one entry more is gathered
+pub gather_more : (p : List ℕ) (e : Entry) (es : List Entry) (sofar whole : List Placed) → sofar ++ gathered p (e ∷ es) ≡ whole → entry_begins p e ≡ true → (sofar ++ placed_entry e ∷ []) ++ gathered p es ≡ whole
+gather_more p e es sofar whole h b = append_assoc sofar (placed_entry e ∷ []) (gathered p es) ∙ ap (λ xs. sofar ++ xs) (sym (gather_in p e es b)) ∙ h
+
+-- and one of another leaf isn't
+pub gather_less : (p : List ℕ) (e : Entry) (es : List Entry) (sofar whole : List Placed) → sofar ++ gathered p (e ∷ es) ≡ whole → entry_begins p e ≡ false → sofar ++ gathered p es ≡ whole
+gather_less p e es sofar whole h b = ap (λ xs. sofar ++ xs) (sym (gather_out p e es b)) ∙ h
+
+-- the entries of a map are gathered as its objects are
+gathered_objects : (c : Configuration) (log : List LogEvent) (p : List ℕ) (entries : List (ℕ × Entry)) → AllByRecursion (λ e. IsKept c log e.0 e.1) entries
+    → gathered p (values_of entries) ≡ map (placed (grid_for c)) (filter (belongs (grid_for c) p) (map object_in entries))
+gathered_objects c log p [] h = refl
+gathered_objects c log p (e ∷ es) h =
+    let g = grid_for c in
+    let o : Object = object_in e in
+    let perm_is : permutation_of e.1.dists.items ≡ g.perm e.1.vector = ap permutation_of h.0.dists_are in
+    let placed_is : placed_entry e.1 ≡ placed g o = ap (λ (ds : List ℕ). record { perm = permutation_of ds; distance = key_distance ds }) h.0.dists_are in
+    let test_is : entry_begins p e.1 ≡ belongs g p o = ap (begins p) perm_is in
+    let rest = gathered_objects c log p es h.1 in
+    let P : Bool → Type 0 = λ b. map placed_entry (cond b (e.1 ∷ filter (entry_begins p) (values_of es)) (filter (entry_begins p) (values_of es)))
+    ≡ map (placed g) (cond b (o ∷ filter (belongs g p) (map object_in es)) (filter (belongs g p) (map object_in es))) in
+    let Q : Bool → Type 0 = λ b. map placed_entry (cond b (e.1 ∷ filter (entry_begins p) (values_of es)) (filter (entry_begins p) (values_of es)))
+    ≡ map (placed g) (filter (belongs g p) (o ∷ map object_in es)) in
+    subst Q (sym test_is) ((elim (belongs g p o) as P [ true ↦ (rw (placed_is, rest) refl) | false ↦ rest ]))
+
+-- the gathered entries of all are the live objects of the leaf
+pub gathered_live : (b : BoardState) (pivots : List (List ℤ)) (levels cell : ℕ) (entries : List (ℕ × Entry)) (p : List ℕ) → IsPlain b pivots levels cell entries
+    → SameElements (gathered p (values_of entries)) (map (placed (grid_in b)) (filter (belongs (grid_in b) p) (live (updates_of b.log))))
+gathered_live b pivots levels cell entries p is =
+    let g = grid_in b in
+    subst (λ (xs : List Placed). SameElements xs (map (placed g) (filter (belongs g p) (live (updates_of b.log))))) (sym (gathered_objects b.settings b.log p entries is.kept))
+    (same_map (placed g) _ _ (same_filter (belongs g p) _ _ is.same))
