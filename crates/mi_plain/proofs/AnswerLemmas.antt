@@ -20,7 +20,7 @@ use Rattle.mi_tree.specs.Legal.{accepted, events_to}
 use Rattle.mi_tree.specs.Right.{IsUpdateNumber, Right, before}
 use Rattle.mi_plain.proofs.GrowingLemmas.{length-updates_of}
 use Rattle.mi_plain.proofs.RangeLemmas.{at_end, end_events, end_is}
-use Rattle.mi_plain.proofs.RunningLemmas.{grows_none}
+use Rattle.mi_plain.proofs.GrowingLemmas.{grows_none}
 use Rattle.mi_plain.specs.Answering.{Answers, Grows, GrowsBySplits, TellsBetween}
 
 -- nothing was entered
