@@ -71,6 +71,13 @@ module _ (c : Configuration) (limits : IsWithinLimits c) where
       let near : (grid_for c).distance e.vector < 2 ^ 27 = subst (λ (n : ℕ). n < 2 ^ 27) k.distance_is (distance_fits e.key) in
       ap parts_of k.key_is ∙ parts_of-key_of (leaf_parts c log id e.vector e.birth) (fit_leaf log id e.vector e.birth low near k.born)
 
+  -- there are pivots where a leaf is to be split
+  pub some_pivots : (log : List LogEvent) (p : List ℕ) → MayFollow c log (Split p) → 1 ≤ length c.pivots
+  some_pivots log p may =
+      let few = (wanted c log p may).1.0 in
+      let deep = config_grid.levels in
+      omega arith
+
   module _ (log : List LogEvent) (legal : LegalLog c log) (p : List ℕ) (may : MayFollow c log (Split p)) where
     abbrev after : List LogEvent
     after = log ++ Split p ∷ []
@@ -205,10 +212,3 @@ module _ (b : BoardState) (pivots : List (List ℤ)) (levels cell : ℕ) (entrie
             (subst (λ (xs : List Object). SameElements (map object_in entries) xs) (sym (ap live (updates_of_split b.log p))) is.same);
         kept = subst (λ (n : ℕ). AllByRecursion (λ (e : ℕ × Entry). IsKept b.settings (b.log ++ Split p ∷ []) e.0 e.1) (map (λ (e : ℕ × Entry). (e.0, rekeyed p n e.1)) entries)) (sym is.levels_are) kept;
       }
-
-  -- there are pivots where a leaf is to be split
-  pub some_pivots : (p : List ℕ) → MayFollow b.settings b.log (Split p) → 1 ≤ length b.settings.pivots
-  some_pivots p may =
-      let few = (wanted b.settings b.log p may).1.0 in
-      let deep = (depth_is (length b.settings.pivots) b.settings.levels is.limits.levels).1 in
-      omega arith

@@ -1,4 +1,4 @@
-use Rattle.std.proofs.Common.{◌≡◌, ◌+◌, ◌-◌, ◌*◌, ◌<◌, ◌≤◌, ◌∷◌, [], ◌++◌, ◌∙◌, ℕ, List, length, sym, subst, ap, refl, true, false, Some, None, arith, length-append}
+use Rattle.std.proofs.Common.{◌≡◌, ◌<◌, ◌∷◌, [], ◌∙◌, length, sym, subst, ap, false, arith, length-append}
 use Rattle.mi_base.specs.declared.records.LogEvent.TheVariants.{Split}
 use Rattle.mi_board.specs.Actors.{actor_at, claiming}
 use Rattle.mi_board.specs.Boards.{BoardState, crowded_at, with_actor, with_split}
