@@ -19,7 +19,7 @@ any_filter p q (l ∷ ls) =
     let P : Bool → Type 0 = λ b. (b && q l || list_any (λ x. p x && q x) ls) ≡ list_any q (cond b (l ∷ filter p ls) (filter p ls)) in
     elim (p l) as P [ true ↦ ap (λ b. q l || b) (any_filter p q ls) | false ↦ any_filter p q ls ]
 
-or_nothing : (b : Bool) → (b || false) ≡ b
+pub or_nothing : (b : Bool) → (b || false) ≡ b
 or_nothing true = refl
 or_nothing false = refl
 

@@ -3,3 +3,4 @@ pub mod BoardLemmas
 pub mod CrowdLemmas
 pub mod FoundLemmas
 pub mod StepLemmas
+pub mod ConditionLemmas

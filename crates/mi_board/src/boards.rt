@@ -65,11 +65,35 @@ impl Board {
         })
     }
 
+    /// The settings that the board was opened with.
+    pub fn settings(&self) -> &Settings
+        ensures { result.now ≡ self.now.settings }
+    {
+        &self.settings
+    }
+
     /// How many actors the board was opened for. They are numbered from 0.
     pub fn actors(&self) -> usize
         ensures { result ≡ length self.now.actors }
     {
         self.actors.len()
+    }
+
+    /// The prefix of the leaf that the actor claims, if it claims one.
+    pub fn claim(&self, actor: u32) -> Option<&Prefix>
+        requires { actor < length self.now.actors }
+        ensures some { IfSome result (λ prefix. (actor_at self.now.actors actor).claim ≡ Some prefix.now) }
+        ensures none { IfNone result ((actor_at self.now.actors actor).claim ≡ None) }
+    {
+        self.actors[actor as usize].claim.as_ref()
+    }
+
+    /// The actor has reserved an update that it hasn't committed since.
+    pub fn has_reserved(&self, actor: u32) -> bool
+        requires { actor < length self.now.actors }
+        ensures { result ≡ (actor_at self.now.actors actor).reserved }
+    {
+        self.actors[actor as usize].reserved
     }
 
     /// The events in order.

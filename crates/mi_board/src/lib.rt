@@ -6,3 +6,10 @@ mod boards;
 
 pub use actors::ActorState;
 pub use boards::Board;
+
+#[cfg(test)]
+mod conditions;
+#[cfg(test)]
+mod plain;
+#[cfg(test)]
+mod tests;

@@ -1,6 +1,6 @@
 -- What a reading that went well tells of its steps.
-use Rattle.std.proofs.Common.{◌≡◌, ℕ, ◌≤◌, ◌&&◌, Bool, true, false, cond, Result, Ok, Err, IfOk, nat_le, ◌⊎◌, inl, inr, refl, ap, arith}
-use Rattle.std.proofs.lemmas.Bool.Decides.{nat_tests}
+use Rattle.std.proofs.Common.{◌≡◌, ℕ, ◌≤◌, Bool, true, false, cond, Result, Ok, Err, IfOk, nat_le, ◌⊎◌, inl, inr, refl, ap}
+use Rattle.std.proofs.lemmas.Bool.{leb-true}
 use Rattle.mi_input.specs.declared.faults.Reason.{Reason}
 use Rattle.mi_input.specs.declared.faults.Reason.TheVariants.{Limit}
 use Rattle.mi_input.specs.declared.faults.InputFault.{InputFault}
@@ -11,10 +11,6 @@ pub chosen : {X : Type 0} (b : Bool) (x y z : X) → cond b x y ≡ z → ((b �
 chosen true x y z h = inl (refl, h)
 chosen false x y z h = inr (refl, h)
 
-pub and_true : (a b : Bool) → (a && b) ≡ true → (a ≡ true) × (b ≡ true)
-and_true true b h = (refl, h)
-and_true false b h = cc
-
 pub ok_same : {X E : Type 0} (x y : X) → ◌≡◌ {A = Result X E} (Ok x) (Ok y) → x ≡ y
 ok_same x y h = cc
 
@@ -22,12 +18,9 @@ pub bind_ok : {A B E : Type 0} (r : Result A E) (next : A → Result B E) (y : B
 bind_ok (Ok x) next y h = (x, refl, h)
 bind_ok (Err e) next y h = cc
 
-pub le_of : (a b : ℕ) → nat_le a b ≡ true → a ≤ b
-le_of a b t = grind (arith, nat_tests)
-
 pub limited_ok : {X : Type 0} (most number : ℕ) (r : Result X Reason) (x : X) → limited most number r ≡ Ok x → (number ≤ most) × (r ≡ Ok x)
 limited_ok most number r x h = elim (chosen (nat_le number most) r (Err Limit) (Ok x) h) [
-  | inl few ↦ (le_of number most few.0, few.1)
+  | inl few ↦ (leb-true number most few.0, few.1)
   | inr many ↦ cc many.1
 ]
 

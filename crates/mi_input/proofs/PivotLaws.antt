@@ -1,16 +1,15 @@
 -- What is read as pivots fits the metric, and there are few.
-use Rattle.std.proofs.Common.{◌≡◌, ◌==◌, ℕ, ℤ, ◌+◌, ◌≤◌, true, false, IsTrue, List, [], ◌∷◌, length, drop, codes, Ok, Err, inl, inr, refl, ap, ◌∙◌, arith, length-drop}
+use Rattle.std.proofs.Common.{◌≡◌, ◌==◌, ℕ, ℤ, ◌+◌, ◌≤◌, IsTrue, List, [], ◌∷◌, length, drop, codes, Ok, Err, inl, inr, ap, arith, length-drop}
 use Rattle.std.specs.List.{AllByRecursion}
 use Rattle.std.proofs.lemmas.Bool.{eqb-true}
 use Rattle.mi_base.specs.declared.settings.MetricKind.{MetricKind}
 use Rattle.mi_base.specs.Configuration.{HasItsRows}
 use Rattle.mi_base.specs.Space.{metric_of}
-use Rattle.mi_input.specs.declared.faults.Reason.{Reason}
 use Rattle.mi_input.specs.declared.faults.Reason.TheVariants.{Fields}
 use Rattle.mi_input.specs.declared.settings.Measure.{Measure}
 use Rattle.mi_input.specs.declared.vectors.Shape.{Shape}
 use Rattle.mi_input.specs.Faults.{Fault, ◌>>=◌, at_record}
-use Rattle.mi_input.specs.Records.{Place, begins_with, limited, run_of}
+use Rattle.mi_input.specs.Records.{Place, begins_with, run_of}
 use Rattle.mi_input.specs.Settings.{ArePivots, IsMeasure, pivot_in, pivots_in}
 use Rattle.mi_input.specs.Vectors.{shape_under, vector_in}
 use Rattle.mi_input.proofs.CaseLemmas.{at_record_ok, bind_ok, chosen, limited_ok, ok_same}

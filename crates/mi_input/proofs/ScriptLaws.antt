@@ -1,25 +1,18 @@
 -- What is read as a script may stand in one.
-use Rattle.std.proofs.Common.{◌≡◌, ℕ, ℤ, pos, negsuc, neg_ℤ, ◌≤ℤ◌, ◌+◌, ◌-◌, ◌^◌, ◌==◌, ◌&&◌, ◌≤◌, ◌<◌, true, IsTrue, List, [], ◌∷◌, length, drop, Option, Some, None, Result, Ok, Err, int_le, unsigned_abs, inl, inr, refl, ◌∙◌, arith, lit≤, length-drop}
+use Rattle.std.proofs.Common.{◌≡◌, ℕ, ℤ, ◌+◌, ◌-◌, ◌^◌, ◌==◌, ◌≤◌, ◌<◌, true, IsTrue, List, [], ◌∷◌, length, drop, Ok, Err, inl, inr, arith, lit≤, length-drop}
 use Rattle.std.specs.List.{AllByRecursion}
-use Rattle.std.proofs.lemmas.Bool.{eq-eqb, eqb-true, lt-ltb}
-use Rattle.std.proofs.lemmas.Int.{ints}
+use Rattle.std.proofs.lemmas.Bool.{eqb-true}
 use Rattle.mi_base.specs.declared.records.Op.{Op}
-use Rattle.mi_base.specs.declared.records.Op.TheVariants.{Insert, Delete, Range, Nearest}
-use Rattle.mi_base.specs.declared.settings.MetricKind.{MetricKind}
-use Rattle.mi_base.specs.declared.settings.MetricKind.TheVariants.{L1, Max, Hamming, Table}
-use Rattle.mi_base.specs.Configuration.{Configuration, HasItsRows, IsWithinLimits, metric_space}
+use Rattle.mi_base.specs.declared.records.Op.TheVariants.{Insert, Delete, Range}
+use Rattle.mi_base.specs.Configuration.{Configuration, IsWithinLimits, metric_space}
 use Rattle.mi_base.specs.Scripts.{IsOpOver, IsScriptOver, AreServed, IsServed}
-use Rattle.mi_base.specs.Space.{has_dims, is_row, metric_of}
-use Rattle.mi_base.specs.Vectors.{all_coordinates}
-use Rattle.mi_input.specs.declared.faults.Reason.{Reason}
-use Rattle.mi_input.specs.declared.faults.Reason.TheVariants.{Fields, Range as OutOfRange}
-use Rattle.mi_input.specs.declared.vectors.Shape.{Shape}
+use Rattle.mi_input.specs.declared.faults.Reason.TheVariants.{Fields}
 use Rattle.mi_input.specs.Faults.{◌>>=◌, at_record}
-use Rattle.mi_input.specs.Numbers.{bounded, count_in, number_in, whole_in}
-use Rattle.mi_input.specs.Records.{each, field_in}
-use Rattle.mi_input.specs.Scripts.{IsUpdate, delete_in, id_in, insert_in, op_in, range_in, script_from}
+use Rattle.mi_input.specs.Numbers.{count_in}
+use Rattle.mi_input.specs.Records.{field_in}
+use Rattle.mi_input.specs.Scripts.{delete_in, id_in, insert_in, op_in, range_in, script_from}
 use Rattle.mi_input.specs.Vectors.{shape_of, vector_in}
-use Rattle.mi_input.proofs.CaseLemmas.{and_true, at_record_ok, bind_ok, chosen, ok_same}
+use Rattle.mi_input.proofs.CaseLemmas.{at_record_ok, bind_ok, chosen, ok_same}
 use Rattle.mi_input.proofs.ScriptLemmas.{op_ok}
 use Rattle.mi_input.proofs.VectorLaws.{by_metric, count_ok}
 
@@ -65,58 +58,51 @@ range_over c fields op within h = elim (chosen (length fields == c.dims + 2) _ (
   | inr other ↦ cc other.1
 ]
 
-op_over : (c : Configuration) (pivots number : ℕ) (fields : List (List ℕ)) (op : Op) → IsWithinLimits c → op_in (shape_of c) pivots number fields ≡ Ok op
+op_over : (c : Configuration) (number : ℕ) (fields : List (List ℕ)) (op : Op) → IsWithinLimits c → op_in (shape_of c) number fields ≡ Ok op
     → (number ≤ 200000) × IsOpOver (metric_space c) op
-op_over c pivots number fields op within h =
-    let o = op_ok (shape_of c) pivots number fields op h in (
+op_over c number fields op within h =
+    let o = op_ok (shape_of c) number fields op h in (
       o.0,
       elim o.1 [
         | inl inserts ↦ insert_over c fields op within inserts
-        | inr others ↦ elim others [ inl deletes ↦ delete_over c fields op deletes | inr ranges ↦ range_over c fields op within ranges.1 ]
+        | inr others ↦ elim others [ inl deletes ↦ delete_over c fields op deletes | inr ranges ↦ range_over c fields op within ranges ]
       ],
     )
 
-records_over : (c : Configuration) (pivots number : ℕ) (records : List (List (List ℕ))) (ops : List Op) → IsWithinLimits c → number ≤ 200001 → script_from (shape_of c) pivots number records ≡ Ok ops
+records_over : (c : Configuration) (number : ℕ) (records : List (List (List ℕ))) (ops : List Op) → IsWithinLimits c → number ≤ 200001 → script_from (shape_of c) number records ≡ Ok ops
     → (length ops + number ≤ 200001) × AllByRecursion (IsOpOver (metric_space c)) ops
 unfolding script_from
-records_over c pivots number [] ops within few h = let e : [] ≡ ops = ok_same [] ops h in rw (← e) (omega arith, tt)
-records_over c pivots number (fields ∷ rest) ops within few h =
-    let (op, first, more) = bind_ok (at_record number (op_in (shape_of c) pivots number fields)) (λ op. script_from (shape_of c) pivots (number + 1) rest >>= λ ops. Ok (op ∷ ops)) ops h in
-    let (after, read, e) = bind_ok (script_from (shape_of c) pivots (number + 1) rest) (λ (ops : List Op). Ok (op ∷ ops)) ops more in
-    let o = op_over c pivots number fields op within (at_record_ok number (op_in (shape_of c) pivots number fields) op first) in
-    let r = records_over c pivots (number + 1) rest after within (omega (arith, o.0)) read in
+records_over c number [] ops within few h = let e : [] ≡ ops = ok_same [] ops h in rw (← e) (omega arith, tt)
+records_over c number (fields ∷ rest) ops within few h =
+    let (op, first, more) = bind_ok (at_record number (op_in (shape_of c) number fields)) (λ op. script_from (shape_of c) (number + 1) rest >>= λ ops. Ok (op ∷ ops)) ops h in
+    let (after, read, e) = bind_ok (script_from (shape_of c) (number + 1) rest) (λ (ops : List Op). Ok (op ∷ ops)) ops more in
+    let o = op_over c number fields op within (at_record_ok number (op_in (shape_of c) number fields) op first) in
+    let r = records_over c (number + 1) rest after within (omega (arith, o.0)) read in
     rw (← ok_same (op ∷ after) ops e) (omega (arith, r.0), (o.1, r.1))
 
 -- a script that was read may be run over the metric
-pub script_over : (c : Configuration) (pivots : ℕ) (records : List (List (List ℕ))) (ops : List Op) → IsWithinLimits c → script_from (shape_of c) pivots 1 records ≡ Ok ops
+pub script_over : (c : Configuration) (records : List (List (List ℕ))) (ops : List Op) → IsWithinLimits c → script_from (shape_of c) 1 records ≡ Ok ops
     → IsScriptOver (metric_space c) ops
-script_over c pivots records ops within h = let r = records_over c pivots 1 records ops within (lit≤ tt) h in record { few = omega (arith, r.0); each = r.1 }
+script_over c records ops within h = let r = records_over c 1 records ops within (lit≤ tt) h in record { few = omega (arith, r.0); each = r.1 }
 
-insert_update : (shape : Shape) (fields : List (List ℕ)) (op : Op) → insert_in shape fields ≡ Ok op → IsUpdate op
+insert_served : (c : Configuration) (fields : List (List ℕ)) (op : Op) → insert_in (shape_of c) fields ≡ Ok op → IsServed op
 unfolding insert_in
-insert_update shape fields op h = elim (chosen (length fields == shape.dims + 2) _ (Err Fields) (Ok op) h) [
+insert_served c fields op h = elim (chosen (length fields == c.dims + 2) _ (Err Fields) (Ok op) h) [
   | inl full ↦
-      let (id, first, more) = bind_ok (id_in (field_in 1 fields)) (λ id. vector_in shape (drop 2 fields) >>= λ v. Ok (Insert id v)) op full.1 in
-      let (v, second, e) = bind_ok (vector_in shape (drop 2 fields)) (λ v. Ok (Insert id v)) op more in
+      let (id, first, more) = bind_ok (id_in (field_in 1 fields)) (λ id. vector_in (shape_of c) (drop 2 fields) >>= λ v. Ok (Insert id v)) op full.1 in
+      let (v, second, e) = bind_ok (vector_in (shape_of c) (drop 2 fields)) (λ v. Ok (Insert id v)) op more in
       rw (← ok_same (Insert id v) op e) tt
   | inr other ↦ cc other.1
 ]
 
-delete_update : (fields : List (List ℕ)) (op : Op) → delete_in fields ≡ Ok op → IsUpdate op
+delete_served : (fields : List (List ℕ)) (op : Op) → delete_in fields ≡ Ok op → IsServed op
 unfolding delete_in
-delete_update fields op h = elim (chosen (length fields == 2) _ (Err Fields) (Ok op) h) [
+delete_served fields op h = elim (chosen (length fields == 2) _ (Err Fields) (Ok op) h) [
   | inl full ↦
       let (id, first, e) = bind_ok (id_in (field_in 1 fields)) (λ id. Ok (Delete id)) op full.1 in
       rw (← ok_same (Delete id) op e) tt
   | inr other ↦ cc other.1
 ]
-
--- an update is of a kind that can be read
-update_served : (op : Op) → IsUpdate op → IsServed op
-update_served (Insert id vector) h = tt
-update_served (Delete id) h = tt
-update_served (Range radius query) h = tt
-update_served (Nearest count query) h = h
 
 range_served : (c : Configuration) (fields : List (List ℕ)) (op : Op) → range_in (shape_of c) fields ≡ Ok op → IsServed op
 unfolding range_in
@@ -128,35 +114,18 @@ range_served c fields op h = elim (chosen (length fields == c.dims + 2) _ (Err F
   | inr other ↦ cc other.1
 ]
 
-op_served : (c : Configuration) (pivots number : ℕ) (fields : List (List ℕ)) (op : Op) → op_in (shape_of c) pivots number fields ≡ Ok op → IsServed op
-op_served c pivots number fields op h =
-    elim (op_ok (shape_of c) pivots number fields op h).1 [
-      | inl inserts ↦ update_served op (insert_update (shape_of c) fields op inserts)
-      | inr others ↦ elim others [ inl deletes ↦ update_served op (delete_update fields op deletes) | inr ranges ↦ range_served c fields op ranges.1 ]
+op_served : (c : Configuration) (number : ℕ) (fields : List (List ℕ)) (op : Op) → op_in (shape_of c) number fields ≡ Ok op → IsServed op
+op_served c number fields op h =
+    elim (op_ok (shape_of c) number fields op h).1 [
+      | inl inserts ↦ insert_served c fields op inserts
+      | inr others ↦ elim others [ inl deletes ↦ delete_served fields op deletes | inr ranges ↦ range_served c fields op ranges ]
     ]
 
 -- a script that was read has operations of the kinds that can be read
-pub script_served : (c : Configuration) (pivots number : ℕ) (records : List (List (List ℕ))) (ops : List Op) → script_from (shape_of c) pivots number records ≡ Ok ops → AreServed ops
+pub script_served : (c : Configuration) (number : ℕ) (records : List (List (List ℕ))) (ops : List Op) → script_from (shape_of c) number records ≡ Ok ops → AreServed ops
 unfolding script_from
-script_served c pivots number [] ops h = let e : [] ≡ ops = ok_same [] ops h in rw (← e) tt
-script_served c pivots number (fields ∷ rest) ops h =
-    let (op, first, more) = bind_ok (at_record number (op_in (shape_of c) pivots number fields)) (λ op. script_from (shape_of c) pivots (number + 1) rest >>= λ ops. Ok (op ∷ ops)) ops h in
-    let (after, read, e) = bind_ok (script_from (shape_of c) pivots (number + 1) rest) (λ (ops : List Op). Ok (op ∷ ops)) ops more in
-    rw (← ok_same (op ∷ after) ops e) (op_served c pivots number fields op (at_record_ok number (op_in (shape_of c) pivots number fields) op first), script_served c pivots (number + 1) rest after read)
-
--- an operation that was read where there are pivots is an update
-op_update : (c : Configuration) (pivots number : ℕ) (fields : List (List ℕ)) (op : Op) → 1 ≤ pivots → op_in (shape_of c) pivots number fields ≡ Ok op → IsUpdate op
-op_update c pivots number fields op some h =
-    elim (op_ok (shape_of c) pivots number fields op h).1 [
-      | inl inserts ↦ insert_update (shape_of c) fields op inserts
-      | inr others ↦ elim others [ inl deletes ↦ delete_update fields op deletes | inr ranges ↦ let none = ranges.0 in absurd (omega arith) ]
-    ]
-
--- a script that was read where there are pivots has updates alone
-pub script_updates : (c : Configuration) (pivots number : ℕ) (records : List (List (List ℕ))) (ops : List Op) → 1 ≤ pivots → script_from (shape_of c) pivots number records ≡ Ok ops → AllByRecursion IsUpdate ops
-unfolding script_from
-script_updates c pivots number [] ops some h = let e : [] ≡ ops = ok_same [] ops h in rw (← e) tt
-script_updates c pivots number (fields ∷ rest) ops some h =
-    let (op, first, more) = bind_ok (at_record number (op_in (shape_of c) pivots number fields)) (λ op. script_from (shape_of c) pivots (number + 1) rest >>= λ ops. Ok (op ∷ ops)) ops h in
-    let (after, read, e) = bind_ok (script_from (shape_of c) pivots (number + 1) rest) (λ (ops : List Op). Ok (op ∷ ops)) ops more in
-    rw (← ok_same (op ∷ after) ops e) (op_update c pivots number fields op some (at_record_ok number (op_in (shape_of c) pivots number fields) op first), script_updates c pivots (number + 1) rest after some read)
+script_served c number [] ops h = let e : [] ≡ ops = ok_same [] ops h in rw (← e) tt
+script_served c number (fields ∷ rest) ops h =
+    let (op, first, more) = bind_ok (at_record number (op_in (shape_of c) number fields)) (λ op. script_from (shape_of c) (number + 1) rest >>= λ ops. Ok (op ∷ ops)) ops h in
+    let (after, read, e) = bind_ok (script_from (shape_of c) (number + 1) rest) (λ (ops : List Op). Ok (op ∷ ops)) ops more in
+    rw (← ok_same (op ∷ after) ops e) (op_served c number fields op (at_record_ok number (op_in (shape_of c) number fields) op first), script_served c (number + 1) rest after read)

@@ -1,13 +1,11 @@
 -- The rows of a table read one after the other.
-use Rattle.std.proofs.Common.{◌≡◌, ℕ, ◌+◌, ◌-◌, ◌≤◌, ◌<◌, ◌&&◌, true, false, List, [], ◌∷◌, ◌++◌, length, drop, codes, Result, Ok, Err, nat_le, refl, sym, ap, append_assoc, arith, length-append, length-drop}
+use Rattle.std.proofs.Common.{◌≡◌, ℕ, ◌-◌, ◌≤◌, ◌<◌, ◌&&◌, true, false, List, [], ◌∷◌, ◌++◌, length, drop, codes, Ok, Err, nat_le, refl, arith, length-drop}
 use Rattle.std.proofs.lemmas.Bool.Decides.{nat_tests}
-use Rattle.std.proofs.lemmas.List.{append-nil}
 use Rattle.std.specs.List.{AllByRecursion}
-use Rattle.mi_input.specs.declared.faults.Reason.{Reason}
 use Rattle.mi_input.specs.declared.faults.Reason.TheVariants.{Fields}
 use Rattle.mi_input.specs.declared.faults.InputFault.{InputFault}
 use Rattle.mi_input.specs.declared.faults.InputFault.TheVariants.{Bad, Memory}
-use Rattle.mi_input.specs.Faults.{Fault, IsFaultOf, ◌>>=◌, at_record}
+use Rattle.mi_input.specs.Faults.{IsFaultOf}
 use Rattle.mi_input.specs.Numbers.{count_in}
 use Rattle.mi_input.specs.Records.{Place, each, reading, run_of}
 use Rattle.mi_input.specs.Settings.{row_in, table_in, values_in}

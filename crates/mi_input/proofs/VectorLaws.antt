@@ -1,27 +1,20 @@
 -- Fields within the bounds of a metric make vectors that fit it.
-use Rattle.std.proofs.Common.{◌≡◌, ℕ, ℤ, pos, negsuc, neg_ℤ, ◌≤ℤ◌, ◌+◌, ◌-◌, ◌^◌, ◌==◌, ◌&&◌, ◌≤◌, ◌<◌, true, IsTrue, List, [], ◌∷◌, length, drop, Option, Some, None, Result, Ok, Err, int_le, unsigned_abs, inl, inr, refl, ◌∙◌, arith, lit≤, length-drop}
-use Rattle.std.specs.List.{AllByRecursion}
-use Rattle.std.proofs.lemmas.Bool.{eq-eqb, eqb-true, lt-ltb}
+use Rattle.std.proofs.Common.{◌≡◌, ℕ, ℤ, pos, negsuc, neg_ℤ, ◌≤ℤ◌, ◌-◌, ◌==◌, ◌&&◌, ◌≤◌, ◌<◌, true, IsTrue, List, [], ◌∷◌, length, Option, Some, None, Result, Ok, Err, int_le, unsigned_abs, inl, inr, refl, ◌∙◌, arith}
+use Rattle.std.proofs.lemmas.Bool.{and_parts, eq-eqb, lt-ltb}
 use Rattle.std.proofs.lemmas.Int.{ints}
-use Rattle.mi_base.specs.declared.records.Op.{Op}
-use Rattle.mi_base.specs.declared.records.Op.TheVariants.{Insert, Delete, Range}
 use Rattle.mi_base.specs.declared.settings.MetricKind.{MetricKind}
 use Rattle.mi_base.specs.declared.settings.MetricKind.TheVariants.{L1, Max, Hamming, Table}
-use Rattle.mi_base.specs.Configuration.{Configuration, HasItsRows, IsWithinLimits, metric_space}
-use Rattle.mi_base.specs.Scripts.{IsOpOver, IsScriptOver}
+use Rattle.mi_base.specs.Configuration.{HasItsRows}
 use Rattle.mi_base.specs.Space.{has_dims, is_row, metric_of}
 use Rattle.mi_base.specs.Vectors.{all_coordinates}
 use Rattle.mi_input.specs.declared.faults.Reason.{Reason}
-use Rattle.mi_input.specs.declared.faults.Reason.TheVariants.{Fields, Range as OutOfRange}
-use Rattle.mi_input.specs.Faults.{◌>>=◌, at_record}
+use Rattle.mi_input.specs.declared.faults.Reason.TheVariants.{Range as OutOfRange}
+use Rattle.mi_input.specs.Faults.{◌>>=◌}
 use Rattle.mi_input.specs.Numbers.{bounded, count_in, number_in, whole_in}
-use Rattle.mi_input.specs.Records.{each, field_in}
+use Rattle.mi_input.specs.Records.{each}
 use Rattle.mi_input.specs.Vectors.{highest, lowest}
-use Rattle.mi_input.proofs.CaseLemmas.{and_true, at_record_ok, bind_ok, chosen, ok_same}
-use Rattle.mi_input.proofs.VectorLemmas.{between}
-
-int_trans : (a b c : ℤ) → a ≤ℤ b → b ≤ℤ c → a ≤ℤ c
-int_trans a b c p q = omega (arith, ints)
+use Rattle.mi_input.proofs.CaseLemmas.{bind_ok, chosen, ok_same}
+use Rattle.mi_input.proofs.VectorLemmas.{between, int_between}
 
 size : (z : ℤ) (n : ℕ) {least most : ℕ} → unsigned_abs z ≡ n → pos least ≤ℤ z → z ≤ℤ pos most → (least ≤ n) × (n ≤ most)
 size (pos k) n {least} {most} e lo hi = let s : k ≡ n = e in (omega (arith, ints), omega (arith, ints))
@@ -34,7 +27,7 @@ bounded_ok : (least most : ℤ) (o : Option ℤ) (z : ℤ) → bounded least mos
 bounded_ok least most None z h = cc
 bounded_ok least most (Some n) z h = elim (chosen (int_le least n && int_le n most) (Ok n) (Err OutOfRange) (Ok z) h) [
   | inl within ↦
-      let t = and_true (int_le least n) (int_le n most) within.0 in
+      let t = and_parts (int_le least n) (int_le n most) within.0 in
       let e : n ≡ z = ok_same n z within.1 in
       rw (← e) (int_le_of least n t.0, int_le_of n most t.1)
   | inr outside ↦ cc outside.1
@@ -66,7 +59,7 @@ each_coordinate least most (field ∷ fields) xs lo hi h =
     let (x, first, more) = bind_ok (whole_in least most field) (λ x. each (whole_in least most) fields >>= λ xs. Ok (x ∷ xs)) xs h in
     let (rest, read, e) = bind_ok (each (whole_in least most) fields) (λ (xs : List ℤ). Ok (x ∷ xs)) xs more in
     let t = whole_ok least most field x first in
-    rw (← ok_same (x ∷ rest) xs e, between x (int_trans _ _ _ lo t.0) (int_trans _ _ _ t.1 hi), each_coordinate least most fields rest lo hi read) refl
+    rw (← ok_same (x ∷ rest) xs e, between x (int_between _ _ _ lo t.0) (int_between _ _ _ t.1 hi), each_coordinate least most fields rest lo hi read) refl
 
 -- so many coordinates fit a metric of so many
 fits_dims : (dims : ℕ) (fields : List (List ℕ)) (v : List ℤ) → length fields ≡ dims

@@ -1,20 +1,20 @@
 -- Coordinates within their bounds make a vector.
 use Rattle.std.proofs.Common.{◌≡◌, ℕ, zero, suc, ℤ, pos, negsuc, neg_ℤ, ◌≤ℤ◌, ◌≤◌, true, List, [], ◌∷◌, ◌++◌, length, Some, slice_get, refl, sym, ◌∙◌, arith, inl, inr, true≢false}
-use Rattle.std.proofs.lemmas.Bool.{le-leb}
+use Rattle.std.proofs.lemmas.Bool.{and_parts, le-leb}
 use Rattle.std.proofs.lemmas.Int.{ints}
 use Rattle.mi_base.specs.Vectors.{IsRefused, all_coordinates, is_coordinate}
 use Rattle.mi_base.specs.declared.refusals.VectorRefusal.{VectorRefusal}
 use Rattle.mi_base.specs.declared.refusals.VectorRefusal.TheVariants.{Length, Coordinate}
 use Rattle.mi_input.specs.declared.vectors.Shape.{Shape}
 use Rattle.mi_input.specs.Vectors.{IsShape}
-use Rattle.mi_input.proofs.CaseLemmas.{and_true}
 
 -- from -1,000,000 to 1,000,000
 pub between : (z : ℤ) → neg_ℤ (pos 1000000) ≤ℤ z → z ≤ℤ pos 1000000 → is_coordinate z ≡ true
 between (pos n) lo hi = let few : n ≤ 1000000 = omega (arith, ints) in le-leb _ _ few
 between (negsuc n) lo hi = let few : suc n ≤ 1000000 = omega (arith, ints) in le-leb _ _ few
 
-int_between : (a b c : ℤ) → a ≤ℤ b → b ≤ℤ c → a ≤ℤ c
+-- the order of whole numbers is transitive
+pub int_between : (a b c : ℤ) → a ≤ℤ b → b ≤ℤ c → a ≤ℤ c
 int_between a b c p q = omega (arith, ints)
 
 -- a number between the bounds of a shape is a coordinate
@@ -23,13 +23,13 @@ in_shape shape z is lo hi = between z (int_between _ _ _ is.lowest lo) (int_betw
 
 pub coordinates_more : (xs : List ℤ) (z : ℤ) → all_coordinates xs ≡ true → is_coordinate z ≡ true → all_coordinates (xs ++ z ∷ []) ≡ true
 coordinates_more [] z all one = rw one refl
-coordinates_more (x ∷ xs) z all one = let t = and_true (is_coordinate x) (all_coordinates xs) all in rw (t.0, coordinates_more xs z t.1 one) refl
+coordinates_more (x ∷ xs) z all one = let t = and_parts (is_coordinate x) (all_coordinates xs) all in rw (t.0, coordinates_more xs z t.1 one) refl
 
 -- coordinates alone stand in a list of coordinates
 coordinate_at : (xs : List ℤ) (place : ℕ) (z : ℤ) → all_coordinates xs ≡ true → slice_get xs place ≡ Some z → is_coordinate z ≡ true
 coordinate_at [] place z all at = cc
-coordinate_at (x ∷ xs) zero z all at = let e : x ≡ z = cc in rw (← e) (and_true (is_coordinate x) (all_coordinates xs) all).0
-coordinate_at (x ∷ xs) (suc place) z all at = coordinate_at xs place z (and_true (is_coordinate x) (all_coordinates xs) all).1 at
+coordinate_at (x ∷ xs) zero z all at = let e : x ≡ z = cc in rw (← e) (and_parts (is_coordinate x) (all_coordinates xs) all).0
+coordinate_at (x ∷ xs) (suc place) z all at = coordinate_at xs place z (and_parts (is_coordinate x) (all_coordinates xs) all).1 at
 
 -- 1 to 64 coordinates are never refused
 pub not_refused : (xs : List ℤ) (why : VectorRefusal) → 1 ≤ length xs → length xs ≤ 64 → all_coordinates xs ≡ true → IsRefused xs why → ⊥

@@ -1,8 +1,7 @@
 -- The script in a file.
-use Rattle.std.specs.Prelude.{ℕ, ℤ, pos, neg_ℤ, ◌+◌, ◌-◌, ◌^◌, ◌==◌, ◌≤◌, ◌≤ℤ◌, if◌then◌else◌, List, [], ◌∷◌, length, drop, codes, Result, Ok, Err}
-use Rattle.std.specs.List.{AllByRecursion}
+use Rattle.std.specs.Prelude.{ℕ, ◌+◌, ◌-◌, ◌^◌, ◌==◌, if◌then◌else◌, List, [], ◌∷◌, length, drop, codes, Result, Ok, Err}
 use Rattle.mi_base.specs.declared.records.Op.{Op}
-use Rattle.mi_base.specs.declared.records.Op.TheVariants.{Insert, Delete, Range, Nearest}
+use Rattle.mi_base.specs.declared.records.Op.TheVariants.{Insert, Delete, Range}
 use Rattle.mi_base.specs.Configuration.{Configuration}
 use Rattle.mi_input.specs.declared.faults.Reason.{Reason}
 use Rattle.mi_input.specs.declared.faults.Reason.TheVariants.{Word, Fields, Unbuilt}
@@ -41,35 +40,23 @@ range_in shape fields =
       Ok (Range radius query))
     else Err Fields
 
--- the operation in the record of this number, or the first thing that is wrong with it; range queries can't be read yet
--- where there are pivots, nor nearest queries at all
-unfoldable pub op_in : Shape → ℕ → ℕ → List (List ℕ) → Result Op Reason
-op_in shape pivots number fields =
+-- the operation in the record of this number, or the first thing that is wrong with it; nearest queries can't be read yet
+unfoldable pub op_in : Shape → ℕ → List (List ℕ) → Result Op Reason
+op_in shape number fields =
     if begins_with (codes "insert") fields then limited 200000 number (insert_in shape fields)
     else if begins_with (codes "delete") fields then limited 200000 number (delete_in fields)
-    else if begins_with (codes "range") fields then (if pivots == 0 then limited 200000 number (range_in shape fields) else Err Unbuilt)
+    else if begins_with (codes "range") fields then limited 200000 number (range_in shape fields)
     else if begins_with (codes "nearest") fields then Err Unbuilt
     else Err Word
 
 -- the operations in these records, of which this is the number of the first, up to the first fault
-unfoldable pub script_from : Shape → ℕ → ℕ → List (List (List ℕ)) → Result (List Op) Fault
-script_from shape pivots number [] = Ok []
-script_from shape pivots number (fields ∷ rest) = do
-  op ← at_record number (op_in shape pivots number fields)
-  ops ← script_from shape pivots (number + 1) rest
+unfoldable pub script_from : Shape → ℕ → List (List (List ℕ)) → Result (List Op) Fault
+script_from shape number [] = Ok []
+script_from shape number (fields ∷ rest) = do
+  op ← at_record number (op_in shape number fields)
+  ops ← script_from shape (number + 1) rest
   Ok (op ∷ ops)
 
 -- the script in a file of these bytes under these settings, or its first fault
 abbrev pub script_in : Configuration → List ℕ → Result (List Op) Fault
-script_in c bytes = script_from (shape_of c) (length c.pivots) 1 (records_in bytes)
-
--- an insert or a delete
-abbrev pub IsUpdate : Op → Type 0
-IsUpdate (Insert id vector) = Unit {0}
-IsUpdate (Delete id) = Unit {0}
-IsUpdate (Range radius query) = ⊥
-IsUpdate (Nearest count query) = ⊥
-
--- where there are pivots, each operation is an update
-abbrev pub AreUpdatesUnderPivots : Configuration → List Op → Type 0
-AreUpdatesUnderPivots c ops = 1 ≤ length c.pivots → AllByRecursion IsUpdate ops
+script_in c bytes = script_from (shape_of c) 1 (records_in bytes)

@@ -10,7 +10,7 @@ use Rattle.mi_input.specs.declared.faults.Reason.TheVariants.{Word, Fields}
 use Rattle.mi_input.specs.declared.settings.Measure.{Measure}
 use Rattle.mi_input.specs.declared.settings.Sizes.{Sizes}
 use Rattle.mi_input.specs.declared.vectors.Shape.{Shape}
-use Rattle.mi_input.specs.Faults.{Fault, ◌>>=◌, at_record}
+use Rattle.mi_input.specs.Faults.{Fault, ◌>>=◌}
 use Rattle.mi_input.specs.Numbers.{count_in}
 use Rattle.mi_input.specs.Records.{Place, begins_with, each, ending, field_in, limited, reading, run_of, start}
 use Rattle.mi_input.specs.Vectors.{shape_under, vector_in}

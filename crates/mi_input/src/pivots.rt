@@ -1,5 +1,5 @@
 //! The pivots of a settings file.
-ghost use Rattle.std.specs.Prelude.{◌≡◌, ◌+◌, ◌<◌, IfOk, OnOk, true};
+ghost use Rattle.std.specs.Prelude.{◌≡◌, ◌+◌, ◌<◌, IfOk, OnOk};
 ghost use Rattle.csv.specs.Records.{fields_of};
 ghost use Rattle.mi_input.specs.Faults.{Gives};
 ghost use Rattle.mi_input.specs.Records.{reading};

@@ -1,11 +1,10 @@
 //! Scripts.
-ghost use Rattle.std.specs.Prelude.{◌≡◌, length, Ok, IfOk, IfErr};
+ghost use Rattle.std.specs.Prelude.{◌≡◌, Ok, IfOk, IfErr};
 ghost use Rattle.csv.specs.Records.{fields_of};
 ghost use Rattle.mi_base.specs.Configuration.{metric_space};
-ghost use Rattle.mi_base.specs.Scripts.{IsScriptOver};
 ghost use Rattle.mi_input.specs.Faults.{Gives, IsFaultOf};
-ghost use Rattle.mi_base.specs.Scripts.{AreServed};
-ghost use Rattle.mi_input.specs.Scripts.{AreUpdatesUnderPivots, delete_in, id_in, insert_in, op_in, range_in, script_from, script_in};
+ghost use Rattle.mi_base.specs.Scripts.{AreServed, IsScriptOver};
+ghost use Rattle.mi_input.specs.Scripts.{delete_in, id_in, insert_in, op_in, range_in, script_from, script_in};
 ghost use Rattle.mi_input.specs.Vectors.{IsShape};
 ghost use Rattle.mi_input.specs.Records.{records_in};
 
@@ -71,11 +70,11 @@ fn range_of(shape: &Shape, fields: &ByteRecord) -> Result<Op, Reason>
     Ok(Op::Range { radius, query })
 }
 
-// The operation in the record of this number, where there are so many pivots.
+// The operation in the record of this number.
 #[tactic(auto, unfolding(crate::specs::Scripts::op_in))]
-fn op_of(shape: &Shape, pivots: usize, number: u32, fields: &ByteRecord) -> Result<Op, Reason>
+fn op_of(shape: &Shape, number: u32, fields: &ByteRecord) -> Result<Op, Reason>
     requires { IsShape shape.now }
-    ensures { result ≡ op_in shape.now pivots number (fields_of fields.now) }
+    ensures { result ≡ op_in shape.now number (fields_of fields.now) }
 {
     let inserts = begins(fields, b"insert");
     let deletes = begins(fields, b"delete");
@@ -87,9 +86,6 @@ fn op_of(shape: &Shape, pivots: usize, number: u32, fields: &ByteRecord) -> Resu
         } else {
             Reason::Word
         });
-    }
-    if !inserts && !deletes && pivots != 0 {
-        return Err(Reason::Unbuilt);
     }
     if number > MAX_RECORDS {
         return Err(Reason::Limit);
@@ -103,19 +99,14 @@ fn op_of(shape: &Shape, pivots: usize, number: u32, fields: &ByteRecord) -> Resu
     }
 }
 
-fn script_of(
-    alloc: Global,
-    bytes: &[u8],
-    shape: &Shape,
-    pivots: usize,
-) -> Result<Script, InputFault>
+fn script_of(alloc: Global, bytes: &[u8], shape: &Shape) -> Result<Script, InputFault>
     requires { IsShape shape.now }
-    ensures { Gives (λ script. script) result (script_from shape.now pivots 1 (records_in bytes.now)) }
+    ensures { Gives (λ script. script) result (script_from shape.now 1 (records_in bytes.now)) }
 {
     let mut records = Records::new(alloc, bytes)?;
     let mut script = Script::new(alloc);
     while let Some(fields) = records.current() {
-        match op_of(shape, pivots, records.number(), fields) {
+        match op_of(shape, records.number(), fields) {
             Ok(op) => script.push(op)?,
             Err(why) => return Err(records.fault(why)),
         }
@@ -124,21 +115,13 @@ fn script_of(
     Ok(script)
 }
 
-// How many pivots there are.
-fn pivots_of(settings: &Settings) -> usize
-    ensures { result ≡ length settings.now.pivots }
-{
-    settings.pivots.len()
-}
-
 /// The script in a file of these bytes. Each vector has the settings' number of coordinates, and each coordinate is
-/// from -1,000,000 to 1,000,000, or under a table the number of a row. Range queries can't be read yet where there are pivots.
+/// from -1,000,000 to 1,000,000, or under a table the number of a row.
 pub fn read_script(alloc: Global, bytes: &[u8], settings: &Settings) -> Result<Script, InputFault>
     ensures ok { IfOk result (λ script. script_in settings.now bytes.now ≡ Ok script) }
     ensures script { IfOk result (IsScriptOver (metric_space settings.now)) }
     ensures served { IfOk result AreServed }
-    ensures updates { IfOk result (AreUpdatesUnderPivots settings.now) }
     ensures err { IfErr result (IsFaultOf (script_in settings.now bytes.now)) }
 {
-    script_of(alloc, bytes, &Shape::of(settings), pivots_of(settings))
+    script_of(alloc, bytes, &Shape::of(settings))
 }

@@ -176,8 +176,8 @@ fn bad_scripts(rt: HostRuntime) {
 }
 
 static BAD_UNDER_PIVOTS: [(&[u8], u32, Reason); 4] = [
-    (b"range,1,0,0\n", 1, Reason::Unbuilt),
-    (b"range\n", 1, Reason::Unbuilt),
+    (b"range,1,0\n", 1, Reason::Fields),
+    (b"range,2147483648,0,0\n", 1, Reason::Range),
     (b"nearest,1,0,0\n", 1, Reason::Unbuilt),
     (b"insert,1,0,0\ninsert,2,0\n", 2, Reason::Fields),
 ];

@@ -3,7 +3,7 @@ use Rattle.std.proofs.Common.{◌≡◌, ℕ, suc, zero, ◌+◌, ◌<◌, ◌�
 use Rattle.std.specs.Prelude.{ℤ}
 use Rattle.std.specs.List.{AllByRecursion}
 use Rattle.std.specs.declared.cmp.Ordering.{Ordering}
-use Rattle.std.specs.declared.cmp.Ordering.TheVariants.{Less, Equal, Greater}
+use Rattle.std.specs.declared.cmp.Ordering.TheVariants.{Less}
 use Rattle.std.specs.Ordering.{nat_cmp, is_lt, ordering_then}
 use Rattle.std.proofs.lemmas.Bool.{false≢true, leb-false}
 use Rattle.std.proofs.lemmas.Bool.Decides.{nat_tests}
@@ -18,7 +18,7 @@ use Rattle.mi_base.proofs.HistoryLemmas.{row_exact, row_total}
 use Rattle.mi_base.proofs.SortingLemmas.{ascending_unique, same_sorted, sorted_ascends, sorted_of_same}
 use Rattle.mi_key.specs.Entries.{Offering}
 use Rattle.mi_rules.specs.Answers.{Measured}
-use Rattle.mi_rules.proofs.RuleLemmas.{refused_far}
+use Rattle.mi_rules.proofs.RuleLemmas.{not_less, refused_far}
 use Rattle.mi_nearest.specs.Nearing.{Nearing, Takes, first_rows, last_distance, may_be_near, worst_of}
 
 take_take : {X : Type 0} (k : ℕ) (xs : List X) → take k (take (suc k) xs) ≡ take k xs
@@ -68,11 +68,6 @@ sorted_more row rows =
 pub first_more : (k : ℕ) (row : Row) (rows before : List Row) → rows ≡ first_rows k before → take k (put row_cmp row rows) ≡ first_rows k (before ++ row ∷ [])
 first_more k row rows before e =
     ap (λ xs. take k (put row_cmp row xs)) e ∙ put_take row_cmp row (sorted row_cmp before) k ∙ ap (take k) (sym (sorted_more row before))
-
-not_less : (o p : Ordering) → is_lt (ordering_then o p) ≡ false → is_lt o ≡ false
-not_less Less p h = h
-not_less Equal p h = refl
-not_less Greater p h = refl
 
 -- no row is farther than the last
 near_last : (rows : List Row) (worst : ℕ) → Ascends row_cmp rows → last_distance rows ≡ Some worst → AllByRecursion (λ row. row.distance ≤ worst) rows

@@ -26,7 +26,7 @@ fn send<S: Sink>(out: &mut S, pieces: &[&[u8]]) -> Result<(), SinkFailed> {
 }
 
 fn step<G: Gate>(gate: &G) {
-    gate.pass(0, GatePoint::Begin { op: 0 });
+    gate.pass(0, GatePoint::Begin { op: 1 });
 }
 
 #[test]

@@ -1,8 +1,9 @@
 -- The halves of a full page.
-use Rattle.std.proofs.Common.{◌+◌, ◌≡◌, ℕ, zero, suc, ◌<◌, ◌≤◌, List, [], ◌∷◌, ◌++◌, length, get_or, take, drop, Option, Some, refl, sym, ap, ◌∙◌, subst, arith, inl, inr, ◌⊎◌}
+use Rattle.std.proofs.Common.{true, false, nat_lt, nat_le, map, ◌+◌, ◌≡◌, ℕ, zero, suc, ◌<◌, ◌≤◌, List, [], ◌∷◌, ◌++◌, length, get_or, take, drop, Option, Some, refl, sym, ap, ◌∙◌, subst, arith, inl, inr, ◌⊎◌}
 use Rattle.std.specs.Prelude.{slice_get}
-use Rattle.std.specs.List.{AllByRecursion}
+use Rattle.std.specs.List.{AllByRecursion, filter}
 use Rattle.std.proofs.lemmas.Bool.{lt-ltb, cases_eq}
+use Rattle.std.proofs.lemmas.Bool.Decides.{nat_tests}
 use Rattle.std.proofs.lemmas.List.{take-map, drop-map, length-map, length-take, length-drop, drop_more, get_or-map, get_or_append_left}
 use Rattle.mi_key.specs.declared.entries.Entry.{Entry}
 use Rattle.mi_page.specs.declared.routes.Route.{Route}
@@ -174,6 +175,56 @@ module _ (p : Node) (h : IsNode p) (full : item_count p ≡ 32) where
             let above : 0 < p.level = omega arith in
             subst P (inner_middle above) (middle_at (route_keys p.routes) h.routes (omega (arith, inner_long above)))
       ]
+
+-- of keys above one, none is below it, and all are at least it
+sides_above : {X : Type 0} (f : X → ℕ) (m : ℕ) (xs : List X) → AllByRecursion (λ k. m < k) (map f xs) → (filter (λ x. nat_lt (f x) m) xs ≡ []) × (filter (λ x. nat_le m (f x)) xs ≡ xs)
+sides_above f m [] h = (refl, refl)
+sides_above f m (x ∷ xs) h =
+    let lt : m < f x = h.0 in
+    let below : nat_lt (f x) m ≡ false = grind (arith, nat_tests) in
+    let from : nat_le m (f x) ≡ true = grind (arith, nat_tests) in
+    let rest = sides_above f m xs h.1 in
+    (rw below rest.0, rw from (ap (λ ys. x ∷ ys) rest.1))
+
+-- a list in key order, cut at a place, is cut at the key there
+pub cut_at : {X : Type 0} (f : X → ℕ) (n : ℕ) (xs : List X) → Ascending (map f xs) → n < length xs
+    → (take n xs ≡ filter (λ x. nat_lt (f x) (get_or (map f xs) n 0)) xs) × (drop n xs ≡ filter (λ x. nat_le (get_or (map f xs) n 0) (f x)) xs)
+cut_at f n [] a lt = absurd (omega arith)
+cut_at f zero (x ∷ xs) a lt =
+    let below : nat_lt (f x) (f x) ≡ false = grind (arith, nat_tests) in
+    let from : nat_le (f x) (f x) ≡ true = grind (arith, nat_tests) in
+    let rest = sides_above f (f x) xs a.0 in
+    (rw below (sym rest.0), rw from (ap (λ ys. x ∷ ys) (sym rest.1)))
+cut_at f (suc n) (x ∷ xs) a lt =
+    let up : f x < get_or (map f xs) n 0 = all_at (λ k. f x < k) (map f xs) n 0 a.0 (omega (arith, length-map xs f)) in
+    let below : nat_lt (f x) (get_or (map f xs) n 0) ≡ true = grind (arith, nat_tests) in
+    let from : nat_le (get_or (map f xs) n 0) (f x) ≡ false = grind (arith, nat_tests) in
+    let rest = cut_at f n xs a.1 (omega arith) in
+    (rw below (ap (λ ys. x ∷ ys) rest.0), rw from rest.1)
+
+abbrev Sides : {X : Type 0} → (X → ℕ) → ℕ → List X → Type 0
+Sides f m xs = (take 16 xs ≡ filter (λ x. nat_lt (f x) m) xs) × (drop 16 xs ≡ filter (λ x. nat_le m (f x)) xs)
+
+none_cut : {X : Type 0} (f : X → ℕ) (m : ℕ) (xs : List X) → xs ≡ [] → Sides f m xs
+none_cut f m [] e = (refl, refl)
+none_cut f m (x ∷ xs) e = absurd (cc)
+
+all_cut : {X : Type 0} (f : X → ℕ) (m : ℕ) (xs : List X) → Ascending (map f xs) → 16 < length xs → get_or (map f xs) 16 0 ≡ m → Sides f m xs
+all_cut f m xs a lt e = subst (λ (k : ℕ). Sides f k xs) e (cut_at f 16 xs a lt)
+
+pub entry_sides : (p : Node) (number : ℕ) → IsNode p → item_count p ≡ 32
+    → ((lower_half number p).entries ≡ filter (λ e. nat_lt e.key (middle_key p)) p.entries) × ((upper_half p).entries ≡ filter (λ e. nat_le (middle_key p) e.key) p.entries)
+entry_sides p number h full = elim (cases_eq p.level 0) [
+  | inl e ↦ all_cut (λ x. x.key) (middle_key p) p.entries h.entries.ascend (omega (arith, ap length (h.leaf e))) (leaf_middle p h full e)
+  | inr n ↦ none_cut (λ x. x.key) (middle_key p) p.entries (h.inner (omega arith))
+]
+
+pub route_sides : (p : Node) (number : ℕ) → IsNode p → item_count p ≡ 32
+    → ((lower_half number p).routes ≡ filter (λ r. nat_lt r.key (middle_key p)) p.routes) × ((upper_half p).routes ≡ filter (λ r. nat_le (middle_key p) r.key) p.routes)
+route_sides p number h full = elim (cases_eq p.level 0) [
+  | inl e ↦ none_cut (λ x. x.key) (middle_key p) p.routes (h.leaf e)
+  | inr n ↦ let above : 0 < p.level = omega arith in all_cut (λ x. x.key) (middle_key p) p.routes h.routes.ascend (omega (arith, ap length (h.inner above))) (inner_middle p h full above)
+]
 
 -- the same with the parts under other names
 pub lower_is : (p : Node) (number m : ℕ) (entries : List Entry) (routes : List Route) → m ≡ middle_key p → entries ≡ take 16 p.entries → routes ≡ take 16 p.routes

@@ -1,5 +1,5 @@
 //! What is true of every page and of every list of entries or routes. The functions do nothing.
-ghost use Rattle.std.specs.Prelude.{◌≡◌, ◌<◌, ◌≤◌, ◌&&◌, ◌++◌, ℕ, Bool, List, [], IsTrue, None, Some, map, slice_get, true, false};
+ghost use Rattle.std.specs.Prelude.{◌≡◌, ◌<◌, ◌≤◌, ◌&&◌, ◌++◌, ℕ, Bool, List, [], IsTrue, None, Some, map, nat_le, nat_lt, slice_get, true, false};
 ghost use Rattle.std.specs.List.{filter};
 ghost use Rattle.mi_base.specs.Sorting.{put};
 ghost use Rattle.mi_key.specs.declared.entries.Entry.{Entry};
@@ -36,6 +36,14 @@ pub fn halves_part_keys()
     ensures lower { (p : Node) (number : ℕ) → IsNode p → item_count p ≡ 32 → IsNode (lower_half number p) × (item_count (lower_half number p) ≡ 16) }
     ensures upper { (p : Node) → IsNode p → item_count p ≡ 32 → IsNode (upper_half p) × (item_count (upper_half p) ≡ 16) }
     ensures middle { (p : Node) → IsNode p → item_count p ≡ 32 → IsInside p.low p.high (middle_key p) × (p.low < middle_key p) }
+{}
+
+/// The halves of a full page are the two sides of its middle key.
+pub fn halves_are_sides()
+    ensures entries { (p : Node) (number : ℕ) → IsNode p → item_count p ≡ 32 → ((lower_half number p).entries ≡ filter (λ e. nat_lt e.key (middle_key p)) p.entries)
+        × ((upper_half p).entries ≡ filter (λ e. nat_le (middle_key p) e.key) p.entries) }
+    ensures routes { (p : Node) (number : ℕ) → IsNode p → item_count p ≡ 32 → ((lower_half number p).routes ≡ filter (λ r. nat_lt r.key (middle_key p)) p.routes)
+        × ((upper_half p).routes ≡ filter (λ r. nat_le (middle_key p) r.key) p.routes) }
 {}
 
 /// A full page shows what its halves show, one after the other.

@@ -7,9 +7,9 @@ mod pages;
 mod routes;
 
 pub use laws::{
-    calls_keep_pages, children_are_one, deaths_hide_one, found_entries_live, halves_have_all,
-    halves_part_keys, halves_show_all, inserts_show_one, removals_hide_one, shown_is_a_filter,
-    sweeps_hide_their_interval, trims_hide_nothing,
+    calls_keep_pages, children_are_one, deaths_hide_one, found_entries_live, halves_are_sides,
+    halves_have_all, halves_part_keys, halves_show_all, inserts_show_one, removals_hide_one,
+    shown_is_a_filter, sweeps_hide_their_interval, trims_hide_nothing,
 };
 pub use pages::Page;
 pub use routes::Route;

@@ -202,22 +202,23 @@ impl Plain {
         ensures answers { (op : ℕ) → Answers self.now.settings self.now.log SESSION op (Op.Range radius query.now) result self.now.log }
         ensures work { Works steps.old result steps.new }
     {
+        let at = self.end();
         let dists = self.pivots.measure(metric, query, steps);
         let mut work = RangeWork::new(alloc, &dists, radius);
-        for entry in self.entries.values() {
+        for (_, entry) in self.entries.iter() {
             let Ok(()) = work.room() else {
                 return Reply::Memory;
             };
             work.take(entry, metric, query, steps);
         }
-        work.finish(self.end(), self.opened(&dists, radius))
+        work.finish(at, self.opened(&dists, radius))
     }
 
     /// How many leaves a query with these distances to the pivots opens.
     fn opened(&self, dists: &Dists, radius: u32) -> u32
         requires dists { array_vec_len dists.now ≡ length self.now.settings.pivots }
-        requires radius { radius < 2 ^ 31 }
-        requires bound { All (λ d. d ≤ 128000000) dists.now.items }
+        requires limits { IsWithinLimits self.now.settings }
+        requires legal { LegalLog self.now.settings self.now.log }
         ensures { result ≡ count_by (passes dists.now.items radius) (cells_of self.now.settings self.now.log) }
     {
         let catalog = self.board.catalog();
@@ -322,6 +323,7 @@ impl Plain {
         requires room { HasRoom self.now }
         requires fits { IsTrue ((metric_space self.now.settings).fits vector.now) }
         requires dists { dists.items ≡ distances (space_of self.now.settings) vector.now }
+        requires bound { All (λ d. d ≤ 128000000) dists.items }
         requires found { beginning ((grid_in self.now).perm vector.now) (cells_of self.now.settings self.now.log) ≡ leaf.now ∷ [] }
         ensures kept { IsKept self.now.settings self.now.log id result }
         ensures vector { result.vector ≡ vector.now }

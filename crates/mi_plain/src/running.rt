@@ -5,7 +5,7 @@ ghost use Rattle.mi_base.specs.Configuration.{metric_space};
 ghost use Rattle.mi_base.specs.Scripts.{AreServed, IsOpOver, IsScriptOver, IsServed};
 ghost use Rattle.mi_plain.specs.Answering.{Answers, GrowsBySplits};
 ghost use Rattle.mi_plain.specs.Outcomes.{IsFinished, IsOutcomeOf, is_memory};
-ghost use Rattle.mi_tree.specs.Legal.{Settled};
+ghost use Rattle.mi_tree.specs.Legal.{LegalLog, Settled};
 ghost use Rattle.mi_plain.specs.Plain.{NoClaims};
 
 use crate::plain::Plain;
@@ -52,6 +52,17 @@ fn care(alloc: Global, plain: &mut Plain) -> bool
     plain.care(alloc).is_err()
 }
 
+/// Steps of the splitter until it has nothing to do. True where memory was wanted, so that a split was given up.
+fn settle(alloc: Global, plain: &mut Plain) -> bool
+    requires idle { NoClaims plain.old }
+    ensures settings { plain.new.settings ≡ plain.old.settings }
+    ensures grows { GrowsBySplits plain.old.log plain.new.log }
+    ensures done { result ≡ false → Settled plain.new.settings plain.new.log }
+    ensures pivots { result ≡ true → 1 ≤ length plain.old.settings.pivots }
+{
+    plain.settle(alloc).is_err()
+}
+
 fn is_short(replies: &Replies) -> bool
     ensures { result ≡ list_any is_memory replies.now }
 {
@@ -61,20 +72,25 @@ fn is_short(replies: &Replies) -> bool
         .any(|reply| matches!(reply, Reply::Memory))
 }
 
-/// What the index and the replies are at the end; `given_up` says that a split was given up.
+/// What the index and the replies are at the end; `given_up` says that a split was given up. The transcript comes with room for
+/// the replies.
 fn outcome(
     alloc: Global,
     plain: Plain,
     replies: Replies,
+    mut transcript: Transcript,
     pages: u32,
     given_up: bool,
 ) -> Result<Outcome, NoMemory>
-    ensures { IfOk result (IsFinished plain.settings plain.log replies pages given_up) }
+    requires empty { transcript ≡ [] }
+    ensures legal { LegalLog plain.settings plain.log }
+    ensures finished { IfOk result (IsFinished plain.settings plain.log replies pages given_up) }
 {
+    // The end of the log tells that it is legal.
+    let _ = plain.end();
     let short = is_short(&replies) || given_up;
     let cells = plain.cells(alloc)?;
     let entries = plain.len() as u64;
-    let mut transcript = Transcript::new(alloc);
     transcript.push(replies)?;
     Ok(Outcome {
         replies: transcript,
@@ -103,6 +119,7 @@ fn run_counted<M: Metric, L: Ledger>(
 {
     let mut plain = Plain::open(alloc, settings)?;
     let mut replies = Replies::with_room(alloc, script.len())?;
+    let transcript = Transcript::with_room(alloc, 1)?;
     let mut given_up = false;
     for (place, op) in script.as_slice().iter().enumerate() {
         let number = place as u32 + 1;
@@ -110,8 +127,8 @@ fn run_counted<M: Metric, L: Ledger>(
         replies.push(reply)?;
         given_up = care(alloc, &mut plain) || given_up;
     }
-    given_up = plain.settle(alloc).is_err() || given_up;
-    outcome(alloc, plain, replies, settings.pages, given_up)
+    given_up = settle(alloc, &mut plain) || given_up;
+    outcome(alloc, plain, replies, transcript, settings.pages, given_up)
 }
 
 /// Runs the script on an empty index.

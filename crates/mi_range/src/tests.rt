@@ -1,5 +1,5 @@
 //! Range queries over a few objects on a line.
-ghost use Rattle.std.specs.Prelude.{◌≡◌, ◌<◌, ◌^◌, IsTrue};
+ghost use Rattle.std.specs.Prelude.{◌≡◌, ◌<◌, ◌^◌};
 
 use crate::*;
 use mi_base::{Dists, Id, NoMemory, Position, Reply, Row, Steps, Vector, VectorList};

@@ -120,7 +120,8 @@ all_has P (x ∷ xs) j all h =
     let go : (b : Bool) → Q b = elim [ true ↦ λ e k. subst P (eqb-true x j e) all.0 | false ↦ λ e k. all_has P xs j all.1 k ] in
     go (nat_eq x j) refl h
 
-not_less : (o p : Ordering) → is_lt (ordering_then o p) ≡ false → is_lt o ≡ false
+-- what is not less by two orders is not less by the first
+pub not_less : (o p : Ordering) → is_lt (ordering_then o p) ≡ false → is_lt o ≡ false
 not_less Less p h = h
 not_less Equal p h = refl
 not_less Greater p h = refl

@@ -1,5 +1,5 @@
 //! From which radius on a leaf has to be opened.
-ghost use Rattle.std.specs.Prelude.{◌≡◌, ◌≤◌, ◌^◌, ◌<◌, ℕ, IsTrue, IfSome, nat_le, length, slice_index, is_some};
+ghost use Rattle.std.specs.Prelude.{◌≡◌, ℕ, IsTrue, IfSome, nat_le};
 ghost use Rattle.arrayvec.specs.ArrayVec.{array_vec_len};
 ghost use Rattle.mi_base.specs.Prefixes.{all_below};
 ghost use Rattle.mi_tree.specs.Passing.{IsBound, double_pivot, none_nearer, passes};

@@ -12,7 +12,7 @@ use Rattle.mi_outside.specs.declared.writing.SinkFailed.{SinkFailed}
 use Rattle.mi_outside.specs.Outside.{Rose, Sends}
 use Rattle.mi_outside.proofs.SendingLemmas.{Rose-later}
 use Rattle.mi_tree.specs.declared.outcomes.Outcome.{Outcome}
-use Rattle.mi_tree.specs.Catalog.{catalog}
+use Rattle.mi_tree.specs.Legal.{cells_of}
 use Rattle.mi_print.specs.Render.{transcript}
 use Rattle.mi_table.specs.declared.faults.TableFault.{TableFault}
 use Rattle.mi_table.specs.Faults.{first_fault}
@@ -24,7 +24,7 @@ use Rattle.mindex.specs.declared.loading.Loaded.{Loaded}
 use Rattle.mindex.specs.Calls.{Answered, Completes, Ends, IsRefusal, IsRun, IsUnread, IsWant, Replayed, RunsTo, Serves, Tells, usage_line}
 use Rattle.mindex.specs.Inputs.{AreTextsOf, IsTextOf, GoodBefore, Inputs, Names, Texts, checked, in_file, inputs_of, names_in, schedule_of, script_of, settings_of}
 use Rattle.mindex.specs.Loading.{Finds, FindsAll, HasMetric, Loads, LoadsAll, MayRun, inputs_in, stop_line, stop_status}
-use Rattle.mindex.specs.Outcomes.{IsOutcomeOf}
+use Rattle.mi_plain.specs.Outcomes.{IsOutcomeOf}
 use Rattle.mindex.proofs.LoadingLemmas.{some_text, some_text_is}
 
 -- a text that was sent, and the status beside it
@@ -42,13 +42,16 @@ runs_to l o said is status = record {
     replies = o.replies;
     log = o.log;
     entries = o.entries;
+    given_up = is.short.given_up;
     legal = is.legal;
     turns = is.turns;
     entries_are = is.entries_are;
-    short_is = sym is.short_is;
+    settled = is.short.settled;
+    only_under_pivots = is.short.pivots;
+    short_is = is.short.short_is;
     text_is = ap (λ cells. transcript o.replies o.log cells o.entries o.allotted o.limit) is.cells_are
-        ∙ ap (λ n. transcript o.replies o.log (catalog o.log) o.entries n o.limit) is.one_page
-        ∙ ap (λ n. transcript o.replies o.log (catalog o.log) o.entries 1 n) is.limit_is;
+        ∙ ap (λ n. transcript o.replies o.log (cells_of l.settings o.log) o.entries n o.limit) is.one_page
+        ∙ ap (λ n. transcript o.replies o.log (cells_of l.settings o.log) o.entries 1 n) is.limit_is;
   };
   status_is = status;
 }

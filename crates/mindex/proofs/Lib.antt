@@ -1,7 +1,2 @@
-pub mod AnsweringLemmas
 pub mod CallLemmas
-pub mod GrowingLemmas
 pub mod LoadingLemmas
-pub mod QueryLemmas
-pub mod RunningLemmas
-pub mod PlainLemmas

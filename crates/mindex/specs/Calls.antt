@@ -1,5 +1,5 @@
 -- What a call may answer, and the text beside it.
-use Rattle.std.specs.Prelude.{◌≡◌, ℕ, zero, suc, ◌≤◌, Bool, cond, List, [], ◌∷◌, length, codes, Option, Some, None, Ok, Err, ◌⊎◌}
+use Rattle.std.specs.Prelude.{◌≡◌, ℕ, zero, suc, ◌≤◌, ◌||◌, Bool, true, false, cond, List, [], ◌∷◌, length, codes, Option, Some, None, Ok, Err, ◌⊎◌}
 use Rattle.std.specs.Fmt.{decimal}
 use Rattle.mi_base.specs.declared.records.Reply.{Reply}
 use Rattle.mi_base.specs.declared.records.LogEvent.{LogEvent}
@@ -8,14 +8,14 @@ use Rattle.mi_input.specs.declared.faults.Reason.{Reason}
 use Rattle.mi_input.specs.declared.faults.Reason.TheVariants as reason
 use Rattle.mi_outside.specs.Outside.{Rose, Wrote, WroteFront}
 use Rattle.mi_tree.specs.InTurn.{AloneInTurn}
-use Rattle.mi_tree.specs.Legal.{Legal}
+use Rattle.mi_tree.specs.Legal.{Legal, Settled}
 use Rattle.mi_print.specs.Render.{line, number_line, rendering}
 use Rattle.mi_table.specs.declared.faults.TableFault.{TableFault}
 use Rattle.mi_table.specs.declared.faults.TableFault.TheVariants as table
 use Rattle.mindex.specs.declared.refusals.Refusal.{Refusal}
 use Rattle.mindex.specs.declared.refusals.Refusal.TheVariants.{Record, Table}
 use Rattle.mindex.specs.Inputs.{Names, Texts, Inputs, AreTextsOf, inputs_of, GoodBefore}
-use Rattle.mindex.specs.Outcomes.{has_memory}
+use Rattle.mi_plain.specs.Outcomes.{has_memory}
 
 abbrev pub usage_line : List ℕ
 usage_line = line (codes "usage: mindex replay SETTINGS SCHEDULE SCRIPT... | run SETTINGS SCRIPT... | make SEED") []
@@ -60,15 +60,18 @@ refusal_status (Record (suc file) number why) = 3
 refusal_status (Table fault) = 2
 
 -- THE HEADLINE. The text is the transcript of replies and a log that are legal for the script, and each operation
--- found the log as those before it left it.
+-- found the log as those before it left it. Where the splitter gave up no split, no leaf is left to be split.
 pub record IsTranscript (inputs : Inputs) (short : Bool) (text : List ℕ) : Type 0 where
   pub replies : List (List Reply)
   pub log : List LogEvent
   pub entries : ℕ
+  pub given_up : Bool
   pub legal : Legal inputs.settings (inputs.script ∷ []) replies log
   pub turns : AloneInTurn replies
   pub entries_are : entries ≡ length (live (updates_of log))
-  pub short_is : has_memory replies ≡ short
+  pub settled : given_up ≡ false → Settled inputs.settings log
+  pub only_under_pivots : given_up ≡ true → 1 ≤ length inputs.settings.pivots
+  pub short_is : short ≡ (has_memory replies || given_up)
   pub text_is : text ≡ rendering inputs.settings replies log entries 1
 
 -- a file isn't of its form: the first in the order of the words
@@ -86,7 +89,7 @@ pub record IsUnread (texts : Texts) (reads reads' : ℕ) (status : ℕ) (text : 
   pub status_is : status ≡ 4
   pub text_is : text ≡ unread_line file
 
--- inputs were run: 0 where no reply is missing for want of memory, else 6
+-- inputs were run: 0 where no reply is missing for want of memory and no split was given up for it, else 6
 pub record RunsTo (inputs : Inputs) (status : ℕ) (text : List ℕ) : Type 0 where
   pub short : Bool
   pub ran : IsTranscript inputs short text

@@ -1,9 +1,9 @@
 //! Reads the files of a call, in the order of the words.
-ghost use Rattle.std.specs.Prelude.{◌≡◌, ◌≤◌, ℕ, [], List, IfOk, IfErr};
+ghost use Rattle.std.specs.Prelude.{◌≡◌, ◌≤◌, ℕ, List, IfOk, IfErr};
 ghost use Rattle.mi_base.specs.Configuration.{metric_space};
-ghost use Rattle.mi_base.specs.Scripts.{IsScriptOver};
+ghost use Rattle.mi_base.specs.Scripts.{AreServed, IsScriptOver};
 ghost use Rattle.mi_input.specs.Schedules.{schedule_in};
-ghost use Rattle.mi_input.specs.Scripts.{AreServed, script_in};
+ghost use Rattle.mi_input.specs.Scripts.{script_in};
 ghost use Rattle.mi_input.specs.Settings.{settings_in};
 ghost use Rattle.mi_outside.specs.Outside.{Reads, RefusesRead};
 ghost use Rattle.mindex.specs.Inputs.{in_file};
@@ -52,7 +52,6 @@ fn fault_of(file: u32, fault: InputFault) -> Stop
 fn load_settings<F: Files>(alloc: Global, name: &str, files: &mut F) -> Result<Settings, Stop>
     ensures loads { Loads (F.content files.old name.now) 0 (F.faults files.old) (F.faults files.new) (in_file 0 settings_in) result }
     ensures contents { (n : List ℕ) → F.content files.new n ≡ F.content files.old n }
-    ensures pivots { IfOk result (λ settings. settings.pivots ≡ []) }
 {
     let mut bytes = Vec::new(alloc);
     match files.read(name, &mut bytes) {

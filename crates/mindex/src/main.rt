@@ -8,18 +8,18 @@ ghost use Rattle.mindex.specs.Inputs.{names_in};
 
 mod adapters;
 mod loading;
-mod plain;
 mod refusals;
 mod replaying;
-mod running;
 #[cfg(test)]
 mod tests;
 mod texts;
 
 use adapters::{RealFiles, RealOut};
 use mi_outside::{Files, Gate, OpenGate, Sink};
-use replaying::replay_call;
+use refusals::Stop;
+use replaying::{replay_call, stopped};
 use std::alloc::Global;
+use std::io::ErrorKind;
 use std::process::ExitCode;
 use std::sync::Wait;
 use std::thread::Threads;
@@ -41,21 +41,22 @@ pub fn mindex<R: Threads + Wait + Sync, F: Files, S: Sink, G: Gate>(
     replay_call(alloc, words, files, out)
 }
 
-/// The words behind the program's name. Words that can't be had as text are no words, which no command is.
-fn words_of(rt: &HostRuntime) -> Vec<String> {
-    match env::args(rt) {
-        Ok(words) => match words.skip(1).collect(rt.alloc()) {
-            Ok(words) => words,
-            Err(_) => Vec::new(rt.alloc()),
-        },
-        Err(_) => Vec::new(rt.alloc()),
-    }
+/// The words behind the program's name.
+fn words_of(rt: &HostRuntime) -> io::Result<Vec<String>> {
+    Ok(env::args(rt)?.skip(1).collect(rt.alloc())?)
 }
 
 fn main(rt: HostRuntime) -> ExitCode {
-    let words = words_of(&rt);
-    let mut files = RealFiles::new(&rt);
     let mut out = RealOut::new(io::writer(&rt));
+    let words = match words_of(&rt) {
+        Ok(words) => words,
+        Err(error) if error.kind() == ErrorKind::OutOfMemory => {
+            return ExitCode::from(stopped(Stop::Memory, &mut out));
+        }
+        // Words that can't be had as text are no words, which no command is.
+        Err(_) => Vec::new(rt.alloc()),
+    };
+    let mut files = RealFiles::new(&rt);
     let status = mindex(
         &rt,
         rt.alloc(),

@@ -7,13 +7,11 @@ ghost use Rattle.mindex.specs.Loading.{MayRun, inputs_in, stop_line, stop_status
 
 use crate::loading::{Loaded, load};
 use crate::refusals::Stop;
-use crate::running::run_script;
 use crate::texts::{refusal_status, send_memory, send_refusal, send_unread, send_usage};
 use mi_outside::{Files, Sink, SinkFailed};
+use mi_plain::run_script;
 use mi_print::render;
 use std::alloc::Global;
-use std::marker::Brand;
-use std::sync::ledger::Blank;
 
 /// The status of a text that was sent whole, or 5.
 fn ended(said: u8, sent: Result<(), SinkFailed>) -> u8
@@ -31,13 +29,7 @@ fn replay_inputs<S: Sink>(alloc: Global, inputs: &Loaded, out: &mut S) -> u8
     requires { MayRun inputs.now }
     ensures { Replayed (inputs_in inputs.now) (S.faults out.old) (S.faults out.new) (S.written out.old) (S.written out.new) result }
 {
-    match run_script::<_, Brand>(
-        alloc,
-        &inputs.settings,
-        &inputs.metric,
-        &inputs.script,
-        Blank::new(1),
-    ) {
+    match run_script(alloc, &inputs.settings, &inputs.metric, &inputs.script) {
         Ok(outcome) => {
             let said = if outcome.short { 6 } else { 0 };
             ended(said, render(&outcome, out))
@@ -47,7 +39,7 @@ fn replay_inputs<S: Sink>(alloc: Global, inputs: &Loaded, out: &mut S) -> u8
 }
 
 /// Sends the line of a call without inputs.
-fn stopped<S: Sink>(stop: Stop, out: &mut S) -> u8
+pub fn stopped<S: Sink>(stop: Stop, out: &mut S) -> u8
     ensures { Ends (stop_status stop) (stop_line stop) (S.faults out.old) (S.faults out.new) (S.written out.old) (S.written out.new) result }
 {
     match stop {

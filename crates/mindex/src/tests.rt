@@ -1,22 +1,29 @@
 //! Tests of the command, from the bytes of its files to the bytes of its text.
 
+mod workloads;
+
 use crate::adapters::{RealFiles, RealOut};
 use crate::mindex;
 use crate::replaying::replay_call;
-use mi_outside::{Files, MemoryFiles, MemorySink, OpenGate, Sink};
+use mi_outside::{
+    Files, MAX_FILE, MemoryFiles, MemorySink, OpenGate, Sink, SteadyFiles, SteadySink,
+};
 use std::alloc::Global;
 use std::collections::BTreeMap;
 use std::fs;
+use std::process::Abort;
 use std::test::Fail;
 
 const PLANE: &[u8] = b"metric,l1\ndims,2\nlevels,0\ncell,4\nupdates,8\npages,4\n";
+
+const PIVOTED: &[u8] = b"metric,l1\ndims,2\npivot,0,0\nlevels,1\ncell,4\nupdates,8\npages,4\n";
 
 const NEAR: &[u8] = b"insert,7,0,0\ninsert,9,3,4\nrange,7,0,0\n";
 
 const NEAR_TEXT: &str =
     "session,0\nstored,1\nstored,2\nrange,2,0,2,1,2\n0,7\n7,9\nhistory,2,0\ninsert,0,1,7,0,0\ninsert,0,2,9,3,4\ncells,1\n-,2\nentries,2\npages,1,4\n";
 
-fn files_of(
+pub fn files_of(
     alloc: Global,
     settings: &[u8],
     schedule: &[u8],
@@ -38,76 +45,104 @@ fn words_of(alloc: Global, words: &[&str]) -> Result<Vec<String>, Fail> {
     Ok(all)
 }
 
-fn replay_words(alloc: Global) -> Result<Vec<String>, Fail> {
+pub fn replay_words(alloc: Global) -> Result<Vec<String>, Fail> {
     words_of(alloc, &["replay", "settings", "schedule", "script"])
 }
 
-#[test]
-fn each_script_has_its_transcript(rt: HostRuntime) -> Result<(), Fail> {
-    let alloc = rt.alloc();
+/// Updates and queries under L1 without pivots: settings, script and transcript.
+static PLANE_CASES: [(&[u8], &str, &str); 9] = [
+    (
+        PLANE,
+        "",
+        "session,0\nhistory,0,0\ncells,1\n-,0\nentries,0\npages,1,4\n",
+    ),
+    (
+        PLANE,
+        "insert,7,0,0\ninsert,9,3,4\nrange,6,0,0\n",
+        "session,0\nstored,1\nstored,2\nrange,2,0,1,1,2\n0,7\nhistory,2,0\ninsert,0,1,7,0,0\ninsert,0,2,9,3,4\ncells,1\n-,2\nentries,2\npages,1,4\n",
+    ),
+    (
+        PLANE,
+        "insert,7,0,0\ninsert,9,3,4\nrange,7,0,0\n",
+        NEAR_TEXT,
+    ),
+    (
+        PLANE,
+        "range,5,0,0\ninsert,7,0,0\nrange,0,0,0\n",
+        "session,0\nrange,0,0,0,0,0\nstored,1\nrange,1,0,1,1,1\n0,7\nhistory,1,0\ninsert,0,2,7,0,0\ncells,1\n-,1\nentries,1\npages,1,4\n",
+    ),
+    (
+        PLANE,
+        "insert,7,0,0\ninsert,7,1,1\nrange,0,0,0\n",
+        "session,0\nstored,1\npresent,1,0\nrange,1,0,1,1,1\n0,7\nhistory,1,0\ninsert,0,1,7,0,0\ncells,1\n-,1\nentries,1\npages,1,4\n",
+    ),
+    (
+        PLANE,
+        "insert,7,0,0\ndelete,7\ndelete,7\ninsert,7,5,5\n",
+        "session,0\nstored,1\nremoved,2\nabsent,2,0\nstored,3\nhistory,3,0\ninsert,0,1,7,0,0\ndelete,0,2,7\ninsert,0,4,7,5,5\ncells,1\n-,1\nentries,1\npages,1,4\n",
+    ),
+    (
+        b"metric,l1\ndims,2\nlevels,0\ncell,4\nupdates,2\npages,4\n",
+        "insert,1,0,0\ninsert,2,1,0\ninsert,3,2,0\ndelete,9\ndelete,1\nrange,0,1,0\n",
+        "session,0\nstored,1\nstored,2\nfull,2\nabsent,2,0\nfull,2\nrange,2,0,1,1,2\n0,2\nhistory,2,0\ninsert,0,1,1,0,0\ninsert,0,2,2,1,0\ncells,1\n-,2\nentries,2\npages,1,4\n",
+    ),
+    (
+        PLANE,
+        "\"insert\",7,+0,-00\r\n\r\nrange,2147483647,1,1",
+        "session,0\nstored,1\nrange,1,0,1,1,1\n2,7\nhistory,1,0\ninsert,0,1,7,0,0\ncells,1\n-,1\nentries,1\npages,1,4\n",
+    ),
+    (
+        PLANE,
+        "insert,3,0,-1\ninsert,1,-1,0\nrange,1,0,0\n",
+        "session,0\nstored,1\nstored,2\nrange,2,0,2,1,2\n1,1\n1,3\nhistory,2,0\ninsert,0,1,3,0,-1\ninsert,0,2,1,-1,0\ncells,1\n-,2\nentries,2\npages,1,4\n",
+    ),
+];
+
+/// The same under the other metrics.
+static METRIC_CASES: [(&[u8], &str, &str); 3] = [
+    (
+        b"metric,max\ndims,2\nlevels,0\ncell,4\nupdates,8\npages,4\n",
+        "insert,7,0,0\ninsert,9,3,4\nrange,4,0,0\n",
+        "session,0\nstored,1\nstored,2\nrange,2,0,2,1,2\n0,7\n4,9\nhistory,2,0\ninsert,0,1,7,0,0\ninsert,0,2,9,3,4\ncells,1\n-,2\nentries,2\npages,1,4\n",
+    ),
+    (
+        b"metric,hamming\ndims,2\nlevels,0\ncell,4\nupdates,8\npages,4\n",
+        "insert,7,0,0\ninsert,9,3,4\nrange,1,0,0\n",
+        "session,0\nstored,1\nstored,2\nrange,2,0,1,1,2\n0,7\nhistory,2,0\ninsert,0,1,7,0,0\ninsert,0,2,9,3,4\ncells,1\n-,2\nentries,2\npages,1,4\n",
+    ),
+    (
+        b"metric,table\ndims,1\nrow,0,1,2\nrow,1,0,1\nrow,2,1,0\nlevels,0\ncell,4\nupdates,8\npages,4\n",
+        "insert,1,0\ninsert,2,2\nrange,1,1\n",
+        "session,0\nstored,1\nstored,2\nrange,2,0,2,1,2\n1,1\n1,2\nhistory,2,0\ninsert,0,1,1,0\ninsert,0,2,2,2\ncells,1\n-,2\nentries,2\npages,1,4\n",
+    ),
+];
+
+/// Updates under pivots: leaves that are empty, that the splitter splits, and that an insert splits.
+static PIVOT_CASES: [(&[u8], &str, &str); 3] = [
+    (
+        b"metric,l1\ndims,1\npivot,0\npivot,10\nlevels,2\ncell,4\nupdates,64\npages,40\n",
+        "insert,5,5\n",
+        "session,0\nstored,1\nhistory,1,0\ninsert,0,1,5,5\ncells,2\n0,1\n1,0\nentries,1\npages,1,40\n",
+    ),
+    (
+        b"metric,l1\ndims,1\npivot,0\npivot,10\npivot,20\nlevels,3\ncell,1\nupdates,64\npages,40\n",
+        "insert,1,1\ninsert,2,2\ninsert,3,3\n",
+        "session,0\nstored,1\nstored,2\nstored,3\nhistory,3,2\ninsert,0,1,1,1\ninsert,0,2,2,2\nsplit,0\ninsert,0,3,3,3\nsplit,0.1\ncells,4\n0.1.2,3\n0.2,0\n1,0\n2,0\nentries,3\npages,1,40\n",
+    ),
+    (
+        b"metric,l1\ndims,1\npivot,0\npivot,10\npivot,20\npivot,30\nlevels,4\ncell,1\nupdates,64\npages,40\n",
+        "insert,1,1\ninsert,2,2\ninsert,3,3\ninsert,4,4\ninsert,5,0\n",
+        "session,0\nstored,1\nstored,2\nstored,3\nstored,4\nstored,5\nhistory,5,3\ninsert,0,1,1,1\ninsert,0,2,2,2\nsplit,0\ninsert,0,3,3,3\ninsert,0,4,4,4\nsplit,0.1\nsplit,0.1.2\ninsert,0,5,5,0\ncells,7\n0.1.2.3,5\n0.1.3,0\n0.2,0\n0.3,0\n1,0\n2,0\n3,0\nentries,5\npages,1,40\n",
+    ),
+];
+
+/// Each script gives its transcript, with status 0.
+fn check_transcripts(
+    rt: &impl Abort,
+    alloc: Global,
+    cases: &[(&[u8], &str, &str)],
+) -> Result<(), Fail> {
     let words = replay_words(alloc)?;
-    let cases = [
-        (
-            PLANE,
-            "",
-            "session,0\nhistory,0,0\ncells,1\n-,0\nentries,0\npages,1,4\n",
-        ),
-        (
-            PLANE,
-            "insert,7,0,0\ninsert,9,3,4\nrange,6,0,0\n",
-            "session,0\nstored,1\nstored,2\nrange,2,0,1,1,2\n0,7\nhistory,2,0\ninsert,0,1,7,0,0\ninsert,0,2,9,3,4\ncells,1\n-,2\nentries,2\npages,1,4\n",
-        ),
-        (
-            PLANE,
-            "insert,7,0,0\ninsert,9,3,4\nrange,7,0,0\n",
-            NEAR_TEXT,
-        ),
-        (
-            PLANE,
-            "range,5,0,0\ninsert,7,0,0\nrange,0,0,0\n",
-            "session,0\nrange,0,0,0,0,0\nstored,1\nrange,1,0,1,1,1\n0,7\nhistory,1,0\ninsert,0,2,7,0,0\ncells,1\n-,1\nentries,1\npages,1,4\n",
-        ),
-        (
-            PLANE,
-            "insert,7,0,0\ninsert,7,1,1\nrange,0,0,0\n",
-            "session,0\nstored,1\npresent,1,0\nrange,1,0,1,1,1\n0,7\nhistory,1,0\ninsert,0,1,7,0,0\ncells,1\n-,1\nentries,1\npages,1,4\n",
-        ),
-        (
-            PLANE,
-            "insert,7,0,0\ndelete,7\ndelete,7\ninsert,7,5,5\n",
-            "session,0\nstored,1\nremoved,2\nabsent,2,0\nstored,3\nhistory,3,0\ninsert,0,1,7,0,0\ndelete,0,2,7\ninsert,0,4,7,5,5\ncells,1\n-,1\nentries,1\npages,1,4\n",
-        ),
-        (
-            b"metric,l1\ndims,2\nlevels,0\ncell,4\nupdates,2\npages,4\n",
-            "insert,1,0,0\ninsert,2,1,0\ninsert,3,2,0\ndelete,9\ndelete,1\nrange,0,1,0\n",
-            "session,0\nstored,1\nstored,2\nfull,2\nabsent,2,0\nfull,2\nrange,2,0,1,1,2\n0,2\nhistory,2,0\ninsert,0,1,1,0,0\ninsert,0,2,2,1,0\ncells,1\n-,2\nentries,2\npages,1,4\n",
-        ),
-        (
-            b"metric,max\ndims,2\nlevels,0\ncell,4\nupdates,8\npages,4\n",
-            "insert,7,0,0\ninsert,9,3,4\nrange,4,0,0\n",
-            "session,0\nstored,1\nstored,2\nrange,2,0,2,1,2\n0,7\n4,9\nhistory,2,0\ninsert,0,1,7,0,0\ninsert,0,2,9,3,4\ncells,1\n-,2\nentries,2\npages,1,4\n",
-        ),
-        (
-            b"metric,hamming\ndims,2\nlevels,0\ncell,4\nupdates,8\npages,4\n",
-            "insert,7,0,0\ninsert,9,3,4\nrange,1,0,0\n",
-            "session,0\nstored,1\nstored,2\nrange,2,0,1,1,2\n0,7\nhistory,2,0\ninsert,0,1,7,0,0\ninsert,0,2,9,3,4\ncells,1\n-,2\nentries,2\npages,1,4\n",
-        ),
-        (
-            b"metric,table\ndims,1\nrow,0,1,2\nrow,1,0,1\nrow,2,1,0\nlevels,0\ncell,4\nupdates,8\npages,4\n",
-            "insert,1,0\ninsert,2,2\nrange,1,1\n",
-            "session,0\nstored,1\nstored,2\nrange,2,0,2,1,2\n1,1\n1,2\nhistory,2,0\ninsert,0,1,1,0\ninsert,0,2,2,2\ncells,1\n-,2\nentries,2\npages,1,4\n",
-        ),
-        (
-            PLANE,
-            "\"insert\",7,+0,-00\r\n\r\nrange,2147483647,1,1",
-            "session,0\nstored,1\nrange,1,0,1,1,1\n2,7\nhistory,1,0\ninsert,0,1,7,0,0\ncells,1\n-,1\nentries,1\npages,1,4\n",
-        ),
-        (
-            PLANE,
-            "insert,3,0,-1\ninsert,1,-1,0\nrange,1,0,0\n",
-            "session,0\nstored,1\nstored,2\nrange,2,0,2,1,2\n1,1\n1,3\nhistory,2,0\ninsert,0,1,3,0,-1\ninsert,0,2,1,-1,0\ncells,1\n-,2\nentries,2\npages,1,4\n",
-        ),
-    ];
     for (settings, script, text) in cases {
         let mut files = files_of(alloc, settings, b"", script.as_bytes(), &[])?;
         let mut out = MemorySink::new(alloc, 1000, &[], 10_000)?;
@@ -118,8 +153,53 @@ fn each_script_has_its_transcript(rt: HostRuntime) -> Result<(), Fail> {
     Ok(())
 }
 
+#[test]
+fn scripts_have_their_transcripts(rt: HostRuntime) -> Result<(), Fail> {
+    check_transcripts(&rt, rt.alloc(), &PLANE_CASES)
+}
+
+#[test]
+fn each_metric_has_its_transcript(rt: HostRuntime) -> Result<(), Fail> {
+    check_transcripts(&rt, rt.alloc(), &METRIC_CASES)
+}
+
+#[test]
+fn leaves_are_split_by_the_splitter_and_by_inserts(rt: HostRuntime) -> Result<(), Fail> {
+    check_transcripts(&rt, rt.alloc(), &PIVOT_CASES)
+}
+
+#[test]
+fn the_command_replays_a_script(rt: HostRuntime) -> Result<(), Fail> {
+    let alloc = rt.alloc();
+    let words = replay_words(alloc)?;
+    let mut files = files_of(alloc, PLANE, b"", NEAR, &[])?;
+    let mut out = MemorySink::new(alloc, 1000, &[], 1000)?;
+    let gate = OpenGate::new();
+    let status = mindex(&rt, alloc, words.as_slice(), &mut files, &mut out, &gate);
+    assert_eq!(rt; status, 0);
+    assert_eq!(rt; out.bytes(), NEAR_TEXT.as_bytes());
+    Ok(())
+}
+
+#[test]
+fn steady_files_and_a_steady_sink_serve_a_script(rt: HostRuntime) -> Result<(), Fail> {
+    let alloc = rt.alloc();
+    let words = replay_words(alloc)?;
+    let mut files = SteadyFiles::new(alloc);
+    files.add(alloc, "settings", PLANE)?;
+    files.add(
+        alloc,
+        "script",
+        b"insert,7,0,0\ninsert,9,3,4\nrange,6,0,0\n",
+    )?;
+    let mut out = SteadySink::new();
+    let status = replay_call(alloc, words.as_slice(), &mut files, &mut out);
+    assert_eq!(rt; status, 0);
+    Ok(())
+}
+
 /// Files that are not of their form: settings, schedule and script, the status, and the whole text.
-static FAULTS: [(&[u8], &[u8], &[u8], u8, &[u8]); 62] = [
+static FAULTS: [(&[u8], &[u8], &[u8], u8, &[u8]); 67] = [
     (
         b"metric,table\ndims,1\nrow,0,1,3\nrow,1,0,1\nrow,3,1,0\nlevels,0\ncell,4\nupdates,8\npages,4\n",
         b"x",
@@ -176,7 +256,36 @@ static FAULTS: [(&[u8], &[u8], &[u8], u8, &[u8]); 62] = [
         b"",
         b"",
         2,
-        b"fault,0,3,unbuilt\n",
+        b"fault,0,4,end\n",
+    ),
+    (
+        b"metric,l1\ndims,2\npivot,0,0\nlevels,2\n",
+        b"",
+        b"",
+        2,
+        b"fault,0,4,range\n",
+    ),
+    (
+        b"metric,l1\ndims,2\npivot,0,0\nlevels,0\n",
+        b"",
+        b"",
+        2,
+        b"fault,0,4,range\n",
+    ),
+    (
+        b"metric,l1\ndims,1\npivot,0\npivot,0\npivot,0\npivot,0\npivot,0\npivot,0\npivot,0\npivot,0\npivot,0\npivot,0\npivot,0\npivot,0\npivot,0\npivot,0\npivot,0\npivot,0\npivot,0\npivot,0\npivot,0\npivot,0\npivot,0\npivot,0\npivot,0\npivot,0\npivot,0\npivot,0\npivot,0\npivot,0\npivot,0\npivot,0\npivot,0\npivot,0\npivot,0\n",
+        b"",
+        b"",
+        2,
+        b"fault,0,35,limit\n",
+    ),
+    (PIVOTED, b"", b"range,1,0,0\n", 3, b"fault,2,1,unbuilt\n"),
+    (
+        PIVOTED,
+        b"",
+        b"insert,1,0,0\nnearest,1,0,0\n",
+        3,
+        b"fault,2,2,unbuilt\n",
     ),
     (
         b"metric,l1\ndims,2\nlevels,1\n",
@@ -376,8 +485,11 @@ fn each_fault_has_its_line(rt: HostRuntime) -> Result<(), Fail> {
 fn a_file_above_the_bound_is_too_large(rt: HostRuntime) -> Result<(), Fail> {
     let alloc = rt.alloc();
     let words = replay_words(alloc)?;
-    let most = 67_108_864usize;
-    for (bytes, text) in [(most, "fault,2,1,word\n"), (most + 1, "fault,2,0,large\n")] {
+    let cases = [
+        (MAX_FILE, "fault,2,1,word\n"),
+        (MAX_FILE + 1, "fault,2,0,large\n"),
+    ];
+    for (bytes, text) in cases {
         let script = vec![in alloc; b'x'; bytes]?;
         let mut files = files_of(alloc, PLANE, b"", b"", &[])?;
         files.add(alloc, "script", script.as_slice())?;

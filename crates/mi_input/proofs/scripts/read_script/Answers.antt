@@ -1,29 +1,21 @@
-use Rattle.std.proofs.Common.{length}
 use Rattle.mi_base.specs.Configuration.{metric_space}
-use Rattle.mi_base.specs.Scripts.{IsScriptOver, AreServed}
+use Rattle.mi_base.specs.Scripts.{AreServed, IsScriptOver}
 use Rattle.mi_input.specs.Records.{records_in}
-use Rattle.mi_input.specs.Scripts.{AreUpdatesUnderPivots, script_in}
+use Rattle.mi_input.specs.Scripts.{script_in}
 use Rattle.mi_input.proofs.CaseLemmas.{gives_law}
-use Rattle.mi_input.proofs.ScriptLaws.{script_over, script_served, script_updates}
+use Rattle.mi_input.proofs.ScriptLaws.{script_over, script_served}
 use Rattle.mi_input.proofs.scripts.read_script.Goals as goal
 
 pub returns-clause-script : goal.returns-clause-script
 returns-clause-script c =
     let settings = c.args.settings.now in
-    let gives = rw (c.of.ensures.shape, c.pivots_of.ensures) at c.script_of.ensures in
+    let gives = rw c.of.ensures.shape at c.script_of.ensures in
     gives_law (λ script. script) (IsScriptOver (metric_space settings)) c.script_of.result (script_in settings c.args.bytes.now) gives
-    (λ script read. script_over settings (length settings.pivots) (records_in c.args.bytes.now) script c.of.ensures.within read)
+    (λ script read. script_over settings (records_in c.args.bytes.now) script c.of.ensures.within read)
 
 pub returns-clause-served : goal.returns-clause-served
 returns-clause-served c =
     let settings = c.args.settings.now in
-    let gives = rw (c.of.ensures.shape, c.pivots_of.ensures) at c.script_of.ensures in
+    let gives = rw c.of.ensures.shape at c.script_of.ensures in
     gives_law (λ script. script) AreServed c.script_of.result (script_in settings c.args.bytes.now) gives
-    (λ script read. script_served settings (length settings.pivots) 1 (records_in c.args.bytes.now) script read)
-
-pub returns-clause-updates : goal.returns-clause-updates
-returns-clause-updates c =
-    let settings = c.args.settings.now in
-    let gives = rw (c.of.ensures.shape, c.pivots_of.ensures) at c.script_of.ensures in
-    gives_law (λ script. script) (AreUpdatesUnderPivots settings) c.script_of.result (script_in settings c.args.bytes.now) gives
-    (λ script read some. script_updates settings (length settings.pivots) 1 (records_in c.args.bytes.now) script some read)
+    (λ script read. script_served settings 1 (records_in c.args.bytes.now) script read)

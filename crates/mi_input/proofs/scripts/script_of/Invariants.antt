@@ -7,7 +7,7 @@ use Rattle.mi_input.proofs.scripts.script_of.Given as goal
 -- what was read and what is left is what is read from the start
 abbrev pub invariant-loop-fields : goal.invariant-loop-fields
 invariant-loop-fields l = record {
-  so_far : with_front l.script (script_from l.shape l.pivots l.records.number l.records.records) ≡ script_from l.shape l.pivots 1 (records_in l.bytes);
+  so_far : with_front l.script (script_from l.shape l.records.number l.records.records) ≡ script_from l.shape 1 (records_in l.bytes);
   few : l.records.number ≤ 200001;
 }
 

@@ -1,4 +1,4 @@
-use Rattle.std.proofs.Common.{◌≡◌, ap, sym, ◌∙◌, rules}
+use Rattle.std.proofs.Common.{ap, sym, ◌∙◌, rules}
 use Rattle.mi_base.specs.Permutations.{distances}
 use Rattle.mi_range.proofs.tests.counted.Goals as goal
 

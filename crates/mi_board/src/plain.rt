@@ -1,0 +1,355 @@
+//! What a board is, read off a list of events by scans of it.
+
+use crate::Board;
+use mi_base::{Id, LogEvent, NoMemory, Perm, Prefix, Update, Vector};
+use std::alloc::Global;
+
+/// An event, with the permutation of an inserted object.
+#[derive(Drop)]
+pub enum Event {
+    Insert {
+        actor: u32,
+        op: u32,
+        id: Id,
+        vector: Vector,
+        perm: Perm,
+    },
+    Delete {
+        actor: u32,
+        op: u32,
+        id: Id,
+    },
+    Split {
+        prefix: Prefix,
+    },
+}
+
+#[derive(Drop)]
+struct Holder {
+    claim: Option<Prefix>,
+    reserved: bool,
+}
+
+/// The events, what each actor holds, and how many retired leaves were swept.
+#[derive(Drop)]
+pub struct Plain {
+    pivots: usize,
+    levels: usize,
+    cell: usize,
+    events: Vec<Event>,
+    holders: Vec<Holder>,
+    swept: usize,
+}
+
+impl Event {
+    fn deletes(&self, which: Id) -> bool {
+        match self {
+            Event::Delete { id, .. } => *id == which,
+            _ => false,
+        }
+    }
+
+    fn is_split_of(&self, which: &[u8]) -> bool {
+        match self {
+            Event::Split { prefix } => prefix.as_slice() == which,
+            _ => false,
+        }
+    }
+
+    fn is_update(&self) -> bool {
+        match self {
+            Event::Split { .. } => false,
+            _ => true,
+        }
+    }
+
+    /// The event is the one in a board's log.
+    fn is(&self, event: &LogEvent) -> bool {
+        match (self, event) {
+            (Event::Split { prefix }, LogEvent::Split { prefix: other }) => {
+                prefix.as_slice() == other.as_slice()
+            }
+            (
+                Event::Delete { actor, op, id },
+                LogEvent::Update {
+                    session,
+                    op: number,
+                    update: Update::Delete { id: other },
+                },
+            ) => actor == session && op == number && id == other,
+            (
+                Event::Insert {
+                    actor,
+                    op,
+                    id,
+                    vector,
+                    ..
+                },
+                LogEvent::Update {
+                    session,
+                    op: number,
+                    update: Update::Insert {
+                        id: other,
+                        vector: place,
+                    },
+                },
+            ) => {
+                actor == session
+                    && op == number
+                    && id == other
+                    && vector.as_slice() == place.as_slice()
+            }
+            _ => false,
+        }
+    }
+}
+
+impl Plain {
+    pub fn open(alloc: Global, pivots: usize, levels: u32, cell: u32) -> Result<Plain, NoMemory> {
+        let mut holders = Vec::new(alloc);
+        for _ in 0..2 {
+            holders.push(Holder {
+                claim: None,
+                reserved: false,
+            })?;
+        }
+        Ok(Plain {
+            pivots,
+            levels: levels as usize,
+            cell: cell as usize,
+            events: Vec::new(alloc),
+            holders,
+            swept: 0,
+        })
+    }
+
+    pub fn len(&self) -> usize {
+        self.events.len()
+    }
+
+    pub fn updates(&self) -> usize {
+        self.events.iter().filter(|event| event.is_update()).count()
+    }
+
+    pub fn is_full(&self) -> bool {
+        self.updates() >= 60
+    }
+
+    /// The event at a place is this one of a board's log.
+    pub fn has_event(&self, place: usize, event: &LogEvent) -> bool {
+        match self.events.get(place) {
+            Some(known) => known.is(event),
+            None => false,
+        }
+    }
+
+    pub fn enter(&mut self, event: Event) -> Result<(), NoMemory> {
+        self.events.push(event)?;
+        Ok(())
+    }
+
+    /// Where the event at a place inserted an object that no later event deletes, that object.
+    fn live(&self, place: usize) -> Option<(Id, &Perm)> {
+        match self.events.get(place) {
+            Some(Event::Insert { id, perm, .. }) => {
+                let gone = self
+                    .events
+                    .iter()
+                    .skip(place)
+                    .any(|event| event.deletes(*id));
+                if gone { None } else { Some((*id, perm)) }
+            }
+            _ => None,
+        }
+    }
+
+    fn live_perm(&self, which: Id) -> Option<&Perm> {
+        for place in 0..self.events.len() {
+            if let Some((id, perm)) = self.live(place) {
+                if id == which {
+                    return Some(perm);
+                }
+            }
+        }
+        None
+    }
+
+    pub fn is_live(&self, which: Id) -> bool {
+        self.live_perm(which).is_some()
+    }
+
+    /// How many live objects have permutations that begin with these pivots.
+    pub fn count(&self, prefix: &[u8]) -> usize {
+        (0..self.events.len())
+            .filter(|place| match self.live(*place) {
+                Some((_, perm)) => perm.as_slice().starts_with(prefix),
+                None => false,
+            })
+            .count()
+    }
+
+    fn depth(&self, perm: &Perm) -> usize {
+        let mut depth = self.pivots.min(1);
+        for event in &self.events {
+            if let Event::Split { prefix } = event {
+                if prefix.len() == depth && prefix.begins(perm) {
+                    depth = depth.saturating_add(1);
+                }
+            }
+        }
+        depth
+    }
+
+    /// The leaf of a permutation.
+    pub fn leaf_of<'a>(&self, perm: &'a Perm) -> &'a [u8] {
+        let depth = self.depth(perm).min(perm.len());
+        &perm.as_slice()[..depth]
+    }
+
+    fn was_split(&self, prefix: &[u8]) -> bool {
+        self.events.iter().any(|event| event.is_split_of(prefix))
+    }
+
+    /// A leaf has this prefix: it is a first one or a child of one that was split, and wasn't split itself.
+    pub fn is_leaf(&self, prefix: &[u8]) -> bool {
+        if self.was_split(prefix) {
+            return false;
+        }
+        match prefix.split_last() {
+            Some((_, parent)) => parent.is_empty() || self.was_split(parent),
+            None => self.pivots == 0,
+        }
+    }
+
+    /// How many leaves there are.
+    pub fn leaves(&self) -> usize {
+        let mut count = self.pivots.max(1);
+        for event in &self.events {
+            if let Event::Split { prefix } = event {
+                let more = self.pivots.saturating_sub(prefix.len().saturating_add(1));
+                count = count.saturating_add(more);
+            }
+        }
+        count
+    }
+
+    pub fn is_crowded(&self, leaf: &[u8]) -> bool {
+        leaf.len() < self.levels && self.count(leaf) >= self.cell.saturating_mul(4)
+    }
+
+    fn is_wanted(&self, leaf: &[u8]) -> bool {
+        leaf.len() < self.levels && self.count(leaf) > self.cell
+    }
+
+    /// The least leaf that is to be split and that nobody claims: some live object belongs to it.
+    pub fn first_wanted(&self) -> Option<&[u8]> {
+        let mut first: Option<&[u8]> = None;
+        for place in 0..self.events.len() {
+            if let Some((_, perm)) = self.live(place) {
+                let leaf = self.leaf_of(perm);
+                let later = match first {
+                    Some(earlier) => earlier <= leaf,
+                    None => false,
+                };
+                if !later && self.is_wanted(leaf) && self.claimant(leaf).is_none() {
+                    first = Some(leaf);
+                }
+            }
+        }
+        first
+    }
+
+    /// The leaf that was split first among those that weren't swept.
+    pub fn retired(&self) -> Option<&[u8]> {
+        let mut left = self.swept;
+        for event in &self.events {
+            if let Event::Split { prefix } = event {
+                if left == 0 {
+                    return Some(prefix.as_slice());
+                }
+                left = left.saturating_sub(1);
+            }
+        }
+        None
+    }
+
+    pub fn sweep(&mut self) {
+        self.swept = self.swept.saturating_add(1);
+    }
+
+    pub fn claim(&self, actor: u32) -> Option<&[u8]> {
+        match &self.holders.get(actor as usize)?.claim {
+            Some(prefix) => Some(prefix.as_slice()),
+            None => None,
+        }
+    }
+
+    fn has_reserved(&self, actor: u32) -> bool {
+        match self.holders.get(actor as usize) {
+            Some(holder) => holder.reserved,
+            None => false,
+        }
+    }
+
+    /// Who claims this leaf.
+    pub fn claimant(&self, leaf: &[u8]) -> Option<u32> {
+        for actor in 0..2 {
+            if self.claim(actor) == Some(leaf) {
+                return Some(actor);
+            }
+        }
+        None
+    }
+
+    pub fn change_claim(&mut self, actor: u32, claim: Option<Prefix>) {
+        if let Some(holder) = self.holders.get_mut(actor as usize) {
+            holder.claim = claim;
+        }
+    }
+
+    pub fn reserve(&mut self, actor: u32, reserved: bool) {
+        if let Some(holder) = self.holders.get_mut(actor as usize) {
+            holder.reserved = reserved;
+        }
+    }
+
+    pub fn may_commit(&self, actor: u32, perm: &Perm) -> bool {
+        self.has_reserved(actor) && self.claim(actor) == Some(self.leaf_of(perm))
+    }
+
+    pub fn may_delete(&self, actor: u32, which: Id) -> bool {
+        match self.live_perm(which) {
+            Some(perm) => self.may_commit(actor, perm),
+            None => false,
+        }
+    }
+
+    pub fn may_publish(&self, actor: u32) -> bool {
+        match self.claim(actor) {
+            Some(leaf) => self.is_wanted(leaf),
+            None => false,
+        }
+    }
+
+    /// Splits the leaf that the actor claims, which ends the claim.
+    pub fn split(&mut self, actor: u32) -> Result<(), NoMemory> {
+        if let Some(holder) = self.holders.get_mut(actor as usize) {
+            if let Some(prefix) = holder.claim.take() {
+                self.events.push(Event::Split { prefix })?;
+            }
+        }
+        Ok(())
+    }
+
+    /// What the board says of an actor.
+    pub fn has_actor(&self, actor: u32, board: &Board) -> bool {
+        if actor as usize >= board.actors() {
+            return false;
+        }
+        let claim = match board.claim(actor) {
+            Some(prefix) => Some(prefix.as_slice()),
+            None => None,
+        };
+        claim == self.claim(actor) && board.has_reserved(actor) == self.has_reserved(actor)
+    }
+}

@@ -1,0 +1,333 @@
+//! Random calls of a board by a fixed rule, beside a plain program that keeps a list of events.
+ghost use Rattle.std.specs.Prelude.{◌<◌};
+
+use crate::Board;
+use crate::conditions::{self, Live};
+use crate::plain::{Event, Plain};
+use mi_base::{Id, MetricKind, Settings, TableRows, Vector, VectorList};
+use mi_metric::L1;
+use mi_perm::Pivots;
+use mi_tree::{CommitRefusal, LeafClaim, Look, Placed, ReserveRefusal, Work};
+use std::alloc::Global;
+use std::process::Abort;
+use std::test::Fail;
+
+/// Numbers by a fixed rule.
+#[derive(Drop)]
+struct Draws {
+    state: u64,
+}
+
+impl Draws {
+    /// A number below the bound.
+    fn below(&mut self, bound: u32) -> u32
+        requires { 0 < bound }
+        ensures { result < bound }
+    {
+        self.state = self
+            .state
+            .wrapping_mul(6364136223846793005)
+            .wrapping_add(1442695040888963407);
+        (self.state >> 33) as u32 % bound
+    }
+}
+
+/// Which answers have come.
+#[derive(Clone, Copy, Debug, Default, PartialEq, Eq)]
+struct Seen {
+    full: bool,
+    late: bool,
+    crowded: bool,
+    held: bool,
+    sweep: bool,
+    split: bool,
+    idle: bool,
+}
+
+/// A board, and the plain program after the same calls.
+#[derive(Drop)]
+struct Trial {
+    alloc: Global,
+    board: Board,
+    plain: Plain,
+    draws: Draws,
+    seen: Seen,
+}
+
+/// Settings for a line with these pivots.
+fn line(
+    rt: &impl Abort,
+    alloc: Global,
+    places: &[i64],
+    levels: u32,
+    cell: u32,
+) -> Result<Settings, Fail> {
+    let mut list = VectorList::new(alloc);
+    for place in places {
+        list.push(Vector::new(&[*place]).expect(rt, "a coordinate"))?;
+    }
+    assert!(rt; list.len() <= 32);
+    assert!(rt; Pivots::new(alloc, &list)?.all_fit(&L1::new(1)));
+    assert!(rt; levels as usize >= list.len().min(1) && levels as usize <= list.len().min(6));
+    assert!(rt; cell >= 1 && cell <= 10_000);
+    Ok(Settings {
+        metric: MetricKind::L1,
+        dims: 1,
+        rows: TableRows::new(alloc),
+        pivots: list,
+        levels,
+        cell,
+        updates: 60,
+        pages: 4,
+    })
+}
+
+/// An object of a few places and a few identifiers.
+fn object(rt: &impl Abort, draws: &mut Draws) -> Live {
+    Live {
+        id: Id::new(u64::from(draws.below(40))).expect(rt, "a small number"),
+        vector: Vector::new(&[i64::from(draws.below(30))]).expect(rt, "a small place"),
+    }
+}
+
+fn reserve(rt: &impl Abort, trial: &mut Trial, actor: u32) {
+    match conditions::reserve(&mut trial.board, actor).expect(rt, "an actor") {
+        Ok(look) => {
+            assert!(rt; !trial.plain.is_full());
+            assert_eq!(rt; look, trial.board.look());
+            trial.plain.reserve(actor, true);
+        }
+        Err(refusal) => {
+            assert_eq!(rt; refusal, ReserveRefusal::Full { limit: 60 });
+            assert!(rt; trial.plain.is_full());
+            trial.seen.full = true;
+        }
+    }
+}
+
+fn claim(rt: &impl Abort, trial: &mut Trial, actor: u32, place: &Placed) {
+    let leaf = trial.plain.leaf_of(&place.perm);
+    match conditions::claim_leaf(&mut trial.board, actor, &place.perm) {
+        None => assert!(rt; trial.plain.claim(actor).is_some()),
+        Some(LeafClaim::Taken { leaf: taken }) => {
+            assert!(rt; trial.plain.claimant(leaf).is_none());
+            assert_eq!(rt; taken.prefix.as_slice(), leaf);
+            assert_eq!(rt; taken.count as usize, trial.plain.count(leaf));
+            trial.plain.change_claim(actor, Some(taken.prefix));
+        }
+        Some(LeafClaim::Held { by }) => {
+            assert_eq!(rt; trial.plain.claimant(leaf), Some(by));
+            trial.seen.held = true;
+        }
+    }
+}
+
+fn release(rt: &impl Abort, trial: &mut Trial, actor: u32) {
+    let claims = trial.plain.claim(actor).is_some();
+    assert_eq!(rt;
+        conditions::release_leaf(&mut trial.board, actor).is_some(),
+        claims
+    );
+    trial.plain.change_claim(actor, None);
+}
+
+fn next_work(rt: &impl Abort, trial: &mut Trial, actor: u32) {
+    match conditions::next_work(&mut trial.board, actor) {
+        None => assert!(rt; trial.plain.claim(actor).is_some()),
+        Some(Work::Sweep { prefix }) => {
+            assert_eq!(rt; Some(prefix.as_slice()), trial.plain.retired());
+            trial.plain.sweep();
+            trial.seen.sweep = true;
+        }
+        Some(Work::Split { leaf }) => {
+            assert!(rt; trial.plain.retired().is_none());
+            assert_eq!(rt; Some(leaf.prefix.as_slice()), trial.plain.first_wanted());
+            trial.plain.change_claim(actor, Some(leaf.prefix));
+            trial.seen.split = true;
+        }
+        Some(Work::Idle) => {
+            assert!(rt; trial.plain.retired().is_none() && trial.plain.first_wanted().is_none());
+            trial.seen.idle = true;
+        }
+    }
+}
+
+/// Compares what a commit answered, and enters the event where it was accepted.
+fn entered(
+    rt: &impl Abort,
+    trial: &mut Trial,
+    actor: u32,
+    answer: Result<u32, CommitRefusal>,
+    crowded: bool,
+    event: Event,
+) -> Result<(), Fail> {
+    match answer {
+        Ok(number) => {
+            assert!(rt; !trial.plain.is_full() && !crowded);
+            trial.plain.enter(event)?;
+            assert_eq!(rt; number as usize, trial.plain.updates());
+            trial.plain.reserve(actor, false);
+        }
+        Err(CommitRefusal::Full { limit }) => {
+            assert!(rt; trial.plain.is_full() && limit == 60);
+            trial.seen.late = true;
+        }
+        Err(CommitRefusal::Crowded) => {
+            assert!(rt; !trial.plain.is_full() && crowded);
+            trial.seen.crowded = true;
+        }
+    }
+    Ok(())
+}
+
+fn insert(
+    rt: &impl Abort,
+    trial: &mut Trial,
+    actor: u32,
+    op: u32,
+    object: &Live,
+) -> Result<(), Fail> {
+    let place = conditions::placed_at(rt, trial.alloc, &trial.board, &object.vector)?;
+    let answer = conditions::insert(rt, trial.alloc, &mut trial.board, actor, op, object)?;
+    let may = trial.plain.may_commit(actor, &place.perm) && !trial.plain.is_live(object.id);
+    assert_eq!(rt; answer.is_some(), may);
+    let Some(answer) = answer else { return Ok(()) };
+    let crowded = trial.plain.is_crowded(trial.plain.leaf_of(&place.perm));
+    let event = Event::Insert {
+        actor,
+        op,
+        id: object.id,
+        vector: object.vector.copy(),
+        perm: place.perm,
+    };
+    entered(rt, trial, actor, answer, crowded, event)
+}
+
+fn delete(rt: &impl Abort, trial: &mut Trial, actor: u32, op: u32, id: Id) -> Result<(), Fail> {
+    let answer = conditions::delete(rt, trial.alloc, &mut trial.board, actor, op, id)?;
+    assert_eq!(rt; answer.is_some(), trial.plain.may_delete(actor, id));
+    let Some(answer) = answer else { return Ok(()) };
+    entered(
+        rt,
+        trial,
+        actor,
+        answer,
+        false,
+        Event::Delete { actor, op, id },
+    )
+}
+
+fn publish(rt: &impl Abort, trial: &mut Trial, actor: u32) -> Result<(), Fail> {
+    let position = conditions::publish(rt, trial.alloc, &mut trial.board, actor)?;
+    assert_eq!(rt; position.is_some(), trial.plain.may_publish(actor));
+    let Some(position) = position else {
+        return Ok(())
+    };
+    trial.plain.split(actor)?;
+    assert_eq!(rt; position, trial.board.look().at);
+    Ok(())
+}
+
+/// The board is what the plain program says: its log, its leaves, its actors, its look.
+fn same(rt: &impl Abort, trial: &Trial) {
+    let look = trial.board.look();
+    assert_eq!(rt;
+        look,
+        Look {
+            at: look.at,
+            root: 0,
+            height: 0,
+            floor: look.at
+        }
+    );
+    assert_eq!(rt; look.at.updates as usize, trial.plain.updates());
+    assert_eq!(rt; trial.board.log().len(), trial.plain.len());
+    let splits = trial.plain.len().saturating_sub(trial.plain.updates());
+    assert_eq!(rt; look.at.splits as usize, splits);
+    for (place, event) in trial.board.log().iter().enumerate() {
+        assert!(rt; trial.plain.has_event(place, event), "event {place}");
+    }
+    let cells = trial.board.catalog();
+    assert_eq!(rt; cells.len(), trial.plain.leaves());
+    for place in 0..cells.len() {
+        let leaf = cells.leaf(place);
+        let prefix = leaf.prefix.as_slice();
+        assert!(rt; trial.plain.is_leaf(prefix), "leaf {place}");
+        assert_eq!(rt;
+            leaf.count as usize,
+            trial.plain.count(prefix),
+            "leaf {place}"
+        );
+    }
+    for actor in 0..2 {
+        assert!(rt; trial.plain.has_actor(actor, &trial.board), "actor {actor}");
+    }
+}
+
+fn turn(rt: &impl Abort, trial: &mut Trial, op: u32) -> Result<(), Fail> {
+    let actor = trial.draws.below(2);
+    let object = object(rt, &mut trial.draws);
+    let place = conditions::placed_at(rt, trial.alloc, &trial.board, &object.vector)?;
+    match trial.draws.below(16) {
+        0 => release(rt, trial, actor),
+        1 => next_work(rt, trial, actor),
+        2 => publish(rt, trial, actor)?,
+        3..=5 => claim(rt, trial, actor, &place),
+        6..=8 => reserve(rt, trial, actor),
+        9 => delete(rt, trial, actor, op, object.id)?,
+        _ => insert(rt, trial, actor, op, &object)?,
+    }
+    same(rt, trial);
+    Ok(())
+}
+
+/// So many turns of two actors, and which answers have come by then.
+fn run(
+    rt: &impl Abort,
+    alloc: Global,
+    settings: &Settings,
+    turns: u32,
+    seen: Seen,
+) -> Result<Seen, Fail> {
+    let board = Board::open(alloc, settings, 2)?;
+    let mut trial = Trial {
+        alloc,
+        board,
+        plain: Plain::open(alloc, settings.pivots.len(), settings.levels, settings.cell)?,
+        draws: Draws { state: 7 },
+        seen,
+    };
+    same(rt, &trial);
+    for op in 0..turns {
+        turn(rt, &mut trial, op)?;
+    }
+    let log = trial.board.into_log();
+    assert_eq!(rt; log.len(), trial.plain.len());
+    Ok(trial.seen)
+}
+
+#[test]
+fn random_calls_keep_the_definitions(rt: HostRuntime) -> Result<(), Fail> {
+    let mut seen = Seen::default();
+    let table: [(&[i64], u32, u32); 4] = [
+        (&[], 0, 1),
+        (&[0, 10], 2, 1),
+        (&[0, 10, 20], 3, 2),
+        (&[0, 10, 20], 2, 1),
+    ];
+    for (places, levels, cell) in table {
+        let settings = line(&rt, rt.alloc(), places, levels, cell)?;
+        seen = run(&rt, rt.alloc(), &settings, 6000, seen)?;
+    }
+    let all = Seen {
+        full: true,
+        late: true,
+        crowded: true,
+        held: true,
+        sweep: true,
+        split: true,
+        idle: true,
+    };
+    assert_eq!(rt; seen, all);
+    Ok(())
+}

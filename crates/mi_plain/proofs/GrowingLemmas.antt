@@ -1,0 +1,108 @@
+-- What is right in a log is right in one that goes on, and a reply's position reaches as far there.
+use Rattle.std.proofs.Common.{◌≡◌, ℕ, zero, suc, ◌+◌, ◌-◌, ◌<◌, ◌≤◌, List, [], ◌∷◌, ◌++◌, length, take, Some, get_or, refl, sym, ap, ◌∙◌, arith, length-append, append-nil}
+use Rattle.std.specs.Prelude.{ℤ, slice_get}
+use Rattle.std.proofs.lemmas.List.{length-map, take-append-le}
+use Rattle.std.proofs.lemmas.Option.{slice_get_within, slice_get_read, slice_get-get_or}
+use Rattle.std.proofs.Math.ListN.{get_or-append}
+use Rattle.mi_base.specs.declared.records.LogEvent.{LogEvent}
+use Rattle.mi_base.specs.declared.records.LogEvent.TheVariants.{Update as Made, Split}
+use Rattle.mi_base.specs.declared.records.Op.{Op}
+use Rattle.mi_base.specs.declared.records.Op.TheVariants.{Insert, Delete, Range}
+use Rattle.mi_base.specs.declared.records.Reply.{Reply}
+use Rattle.mi_base.specs.declared.records.Reply.TheVariants as reply
+use Rattle.mi_base.specs.declared.records.Position.{Position}
+use Rattle.mi_base.specs.declared.records.Row.{Row}
+use Rattle.mi_base.specs.Configuration.{Configuration, metric_space, space_of}
+use Rattle.mi_base.specs.History.{Entered, entered, updates_of, is_live, events_at, at_position, IsPosition, range_scan}
+use Rattle.mi_base.proofs.HistoryLemmas.{entered-append, updates_of-append}
+use Rattle.mi_tree.specs.Legal.{events_to, reach}
+use Rattle.mi_tree.specs.Passing.{opened, candidates}
+use Rattle.mi_tree.specs.Right.{Right, IsUpdateNumber, IsRange, before}
+
+-- each update is entered once
+pub length-updates_of : (log : List LogEvent) → length (updates_of log) ≡ length (entered log)
+length-updates_of log = length-map (entered log) (λ e. e.update)
+
+-- a prefix of a log is the same prefix of one that goes on
+at_grows : (log more : List LogEvent) (p : Position) → IsPosition log p → at_position (log ++ more) p ≡ at_position log p
+at_grows log more p is = take-append-le (events_at p) log more is.within
+
+position_grows : (log more : List LogEvent) (p : Position) → IsPosition log p → IsPosition (log ++ more) p
+position_grows log more p is = record {
+  within = omega (arith, is.within, length-append log more);
+  updates = ap (λ l. length (updates_of l)) (at_grows log more p is) ∙ is.updates;
+}
+
+slice_get-append : {X : Type 0} (xs ys : List X) (i : ℕ) (x : X) → slice_get xs i ≡ Some x → slice_get (xs ++ ys) i ≡ Some x
+slice_get-append xs ys i x h =
+    let within : i < length xs = slice_get_within xs i x h in
+    let longer : i < length (xs ++ ys) = omega (arith, within, length-append xs ys) in
+    let there : Some (get_or xs i x) ≡ Some x = sym (slice_get-get_or xs i x within) ∙ h in
+    let same : get_or xs i x ≡ x = cc in
+    slice_get_read (xs ++ ys) (length (xs ++ ys)) i x refl longer (sym (get_or-append xs ys x i within ∙ same))
+
+number_grows : (log more : List LogEvent) (n : ℕ) (e : Entered) → IsUpdateNumber log n e → IsUpdateNumber (log ++ more) n e
+number_grows log more n e is = record {
+  counted = is.counted;
+  stands = ap (λ es. slice_get es (n - 1)) (entered-append log more) ∙ slice_get-append (entered log) (entered more) (n - 1) e is.stands;
+}
+
+number_within : (log : List LogEvent) (n : ℕ) (e : Entered) → IsUpdateNumber log n e → n ≤ length (updates_of log)
+number_within log n e is = omega (arith, is.counted, slice_get_within (entered log) (n - 1) e is.stands, length-updates_of log)
+
+before_grows : (log more : List LogEvent) (n : ℕ) (e : Entered) → IsUpdateNumber log n e → before n (log ++ more) ≡ before n log
+before_grows log more n e is =
+    let within : n - 1 ≤ length (updates_of log) = omega (arith, number_within log n e is) in
+    ap (take (n - 1)) (updates_of-append log more) ∙ take-append-le (n - 1) (updates_of log) (updates_of more) within
+
+none_more : {X : Type 0} (xs : List X) → length xs ≡ 0 → xs ≡ []
+none_more [] h = refl
+none_more (x ∷ xs) h = absurd (omega arith)
+
+-- where a log has all its updates, what follows adds none
+abbrev pub StaysFull : Configuration → List LogEvent → List LogEvent → Type 0
+StaysFull c log more = length (updates_of log) ≡ c.updates → updates_of (log ++ more) ≡ updates_of log
+
+-- a full log gains none where there are few
+pub full_stays : (c : Configuration) (log more : List LogEvent) → length (updates_of (log ++ more)) ≤ c.updates → StaysFull c log more
+full_stays c log more few full =
+    let none : updates_of more ≡ [] = none_more (updates_of more) (omega (arith, full, few, ap length (updates_of-append log more), length-append (updates_of log) (updates_of more))) in
+    updates_of-append log more ∙ ap (λ us. updates_of log ++ us) none ∙ append-nil (updates_of log)
+
+range_grows : (c : Configuration) (log more : List LogEvent) (radius : ℕ) (query : List ℤ) (p : Position) (rows : List Row) (cells distances : ℕ)
+    → IsRange c log radius query p rows cells distances → IsRange c (log ++ more) radius query p rows cells distances
+range_grows c log more radius query p rows cells distances h =
+    let same = sym (at_grows log more p h.position) in
+    record {
+      position = position_grows log more p h.position;
+      rows_are = h.rows_are ∙ ap (λ l. range_scan (metric_space c) (updates_of l) query radius) same;
+      cells_are = h.cells_are ∙ ap (λ l. opened (space_of c) c.levels l query radius) same;
+      distances_are = h.distances_are ∙ ap (λ l. length c.pivots + length (candidates (space_of c) c.levels l query radius)) same;
+    }
+
+pub right_grows : (c : Configuration) (log more : List LogEvent) (session op : ℕ) (o : Op) (y : Reply) → StaysFull c log more → Right c log session op o y → Right c (log ++ more) session op o y
+right_grows c log more session op (Insert id v) (reply.Stored n) stays h = (number_grows log more n _ h.0, ap (is_live id) (before_grows log more n _ h.0) ∙ h.1)
+right_grows c log more session op (Delete id) (reply.Removed n) stays h = (number_grows log more n _ h.0, ap (is_live id) (before_grows log more n _ h.0) ∙ h.1)
+right_grows c log more session op (Insert id v) (reply.Present p) stays h = (position_grows log more p h.0, ap (λ l. is_live id (updates_of l)) (at_grows log more p h.0) ∙ h.1)
+right_grows c log more session op (Delete id) (reply.Absent p) stays h = (position_grows log more p h.0, ap (λ l. is_live id (updates_of l)) (at_grows log more p h.0) ∙ h.1)
+right_grows c log more session op (Insert id v) (reply.Full limit) stays h =
+    let same = stays (h.1 ∙ h.0) in (h.0, ap length same ∙ h.1, ap (is_live id) same ∙ h.2)
+right_grows c log more session op (Delete id) (reply.Full limit) stays h =
+    let same = stays (h.1 ∙ h.0) in (h.0, ap length same ∙ h.1, ap (is_live id) same ∙ h.2)
+right_grows c log more session op (Range radius query) (reply.Range p rows cells distances) stays h = range_grows c log more radius query p rows cells distances h
+right_grows c log more session op o y stays h = h
+
+events_to_grows : (log more : List LogEvent) (n : ℕ) → n ≤ length (updates_of log) → events_to n (log ++ more) ≡ events_to n log
+events_to_grows [] more zero h = refl
+events_to_grows (e ∷ log) more zero h = refl
+events_to_grows [] more (suc n) h = absurd (omega arith)
+events_to_grows (Made session op u ∷ log) more (suc n) h = ap (λ m. 1 + m) (events_to_grows log more n (omega (arith, h)))
+events_to_grows (Split p ∷ log) more (suc n) h = ap (λ m. 1 + m) (events_to_grows log more (suc n) h)
+
+-- a right reply reaches as far in a log that goes on
+pub reach_grows : (c : Configuration) (log more : List LogEvent) (session op : ℕ) (o : Op) (y : Reply) → Right c log session op o y → reach (log ++ more) y ≡ reach log y
+reach_grows c log more session op (Insert id v) (reply.Stored n) h = ap Some (events_to_grows log more n (number_within log n _ h.0))
+reach_grows c log more session op (Delete id) (reply.Removed n) h = ap Some (events_to_grows log more n (number_within log n _ h.0))
+reach_grows c log more session op o (reply.Stored n) h = absurd h
+reach_grows c log more session op o (reply.Removed n) h = absurd h
+reach_grows c log more session op o y h = refl

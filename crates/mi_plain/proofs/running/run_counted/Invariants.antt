@@ -1,0 +1,14 @@
+use Rattle.std.proofs.Common.{◌≡◌, ◌≤◌, [], length, take, true}
+use Rattle.mi_plain.specs.Answering.{Ran}
+use Rattle.mi_plain.specs.Plain.{NoClaims}
+use Rattle.mi_plain.proofs.running.run_counted.Given as goal
+
+-- the operations so far, each with the splitter's step after it, made the log and the replies so far
+abbrev pub invariant-loop-place : goal.invariant-loop-place
+invariant-loop-place g l = record {
+  settings : l.plain.settings ≡ l.settings;
+  idle : NoClaims l.plain;
+  ran : Ran l.settings [] 0 1 (take l.place l.op-items) l.replies l.plain.log;
+  pivots : l.given_up ≡ true → 1 ≤ length l.settings.pivots;
+  same : l.op-items ≡ l.initial.op-items;
+}

@@ -1,4 +1,0 @@
-use Rattle.mindex.proofs.running.answer.Goals as goal
-
-pub returns-in-Range-clause-answers : goal.returns-in-Range-clause-answers
-returns-in-Range-clause-answers g c = rw c.in-Range.is (c.range.ensures 0 c.args.number)

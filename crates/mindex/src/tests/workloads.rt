@@ -1,0 +1,316 @@
+//! Workloads under pivots against a plain program of the definitions, which scans all live objects at each question.
+
+use super::{files_of, replay_words};
+use crate::replaying::replay_call;
+use mi_outside::MemorySink;
+use std::alloc::Global;
+use std::collections::BTreeMap;
+use std::test::Fail;
+
+/// Settings of the plane, with fewer than ten pivots.
+struct Setting {
+    pivots: &'static [[i64; 2]],
+    levels: usize,
+    cell: usize,
+    updates: u64,
+}
+
+/// What the definitions say of an index. Prefixes and permutations are texts of one digit for each pivot with points between them,
+/// so that a prefix begins a permutation as text, and the order of prefixes is that of their texts.
+#[derive(Drop)]
+struct Scans<'a> {
+    setting: &'a Setting,
+    /// The permutation of each live object.
+    objects: BTreeMap<u64, String>,
+    leaves: Vec<String>,
+    unswept: u64,
+    updates: u64,
+    splits: u64,
+    replies: String,
+    events: String,
+}
+
+/// The pivots' numbers by distance, then number.
+fn permutation(alloc: Global, pivots: &[[i64; 2]], object: [i64; 2]) -> Result<String, Fail> {
+    let mut order = Vec::new(alloc);
+    for (number, pivot) in pivots.iter().enumerate() {
+        let distance = pivot[0]
+            .abs_diff(object[0])
+            .saturating_add(pivot[1].abs_diff(object[1]));
+        order.push((distance, number))?;
+    }
+    order.sort()?;
+    let mut text = String::new(alloc);
+    for (_, number) in order.as_slice() {
+        let digit = format!(in alloc; "{number}")?;
+        if !text.is_empty() {
+            text.push_str(".")?;
+        }
+        text.push_str(digit.as_str())?;
+    }
+    Ok(text)
+}
+
+impl<'a> Scans<'a> {
+    fn new(alloc: Global, setting: &'a Setting) -> Result<Scans<'a>, Fail> {
+        let mut leaves = Vec::new(alloc);
+        if setting.pivots.is_empty() {
+            leaves.push(String::new(alloc))?;
+        }
+        for pivot in 0..setting.pivots.len() {
+            leaves.push(format!(in alloc; "{pivot}")?)?;
+        }
+        Ok(Scans {
+            setting,
+            objects: BTreeMap::new(alloc),
+            leaves,
+            unswept: 0,
+            updates: 0,
+            splits: 0,
+            replies: String::new(alloc),
+            events: String::new(alloc),
+        })
+    }
+
+    /// How many live objects belong to the leaf.
+    fn count(&self, leaf: &str) -> usize {
+        let mut count = 0usize;
+        for perm in self.objects.values() {
+            if perm.as_str().starts_with(leaf) {
+                count = count.saturating_add(1);
+            }
+        }
+        count
+    }
+
+    /// The first leaf above the greatest depth that has so many objects, of those that begin the permutation, where one is given.
+    fn first_leaf(
+        &self,
+        alloc: Global,
+        least: usize,
+        perm: Option<&str>,
+    ) -> Result<Option<String>, Fail> {
+        for leaf in self.leaves.as_slice() {
+            let text = leaf.as_str();
+            let begins = match perm {
+                Some(perm) => perm.starts_with(text),
+                None => true,
+            };
+            let is_above = (text.len() / 2).saturating_add(1) < self.setting.levels;
+            if begins && is_above && self.count(text) >= least {
+                return Ok(Some(String::from_str(alloc, text)?));
+            }
+        }
+        Ok(None)
+    }
+
+    /// Puts the children of a leaf in its place.
+    fn split(&mut self, alloc: Global, leaf: &str) -> Result<(), Fail> {
+        self.leaves.retain(|other| other.as_str() != leaf);
+        for pivot in 0..self.setting.pivots.len() {
+            let digit = format!(in alloc; "{pivot}")?;
+            if !leaf.contains(digit.as_str()) {
+                self.leaves.push(format!(in alloc; "{leaf}.{pivot}")?)?;
+            }
+        }
+        self.leaves.sort()?;
+        self.splits = self.splits.saturating_add(1);
+        self.unswept = self.unswept.saturating_add(1);
+        let line = format!(in alloc; "split,{leaf}\n")?;
+        self.events.push_str(line.as_str())?;
+        Ok(())
+    }
+
+    /// One step of the splitter. False where nothing is left to do.
+    fn step(&mut self, alloc: Global) -> Result<bool, Fail> {
+        if self.unswept > 0 {
+            self.unswept -= 1;
+            return Ok(true);
+        }
+        let least = self.setting.cell.saturating_add(1);
+        match self.first_leaf(alloc, least, None)? {
+            Some(leaf) => {
+                self.split(alloc, leaf.as_str())?;
+                Ok(true)
+            }
+            None => Ok(false),
+        }
+    }
+
+    /// Enters an insert, before which leaves are split that have four times as many objects as they should.
+    fn insert(&mut self, alloc: Global, op: u64, id: u64, object: [i64; 2]) -> Result<(), Fail> {
+        let perm = permutation(alloc, self.setting.pivots, object)?;
+        let least = self.setting.cell.saturating_mul(4);
+        for _ in 0..self.setting.levels {
+            if let Some(leaf) = self.first_leaf(alloc, least, Some(perm.as_str()))? {
+                self.split(alloc, leaf.as_str())?;
+            }
+        }
+        self.objects.insert(id, perm)?;
+        let [x, y] = object;
+        let line = format!(in alloc; "insert,0,{op},{id},{x},{y}\n")?;
+        self.events.push_str(line.as_str())?;
+        Ok(())
+    }
+
+    /// Makes one operation, an insert where there is an object and else a delete, and then one step of the splitter.
+    fn make(
+        &mut self,
+        alloc: Global,
+        op: u64,
+        id: u64,
+        object: Option<[i64; 2]>,
+    ) -> Result<(), Fail> {
+        let Scans {
+            updates,
+            splits,
+            ..
+        } = self;
+        let next = updates.saturating_add(1);
+        let reply = match (object, self.objects.contains_key(&id)) {
+            (Some(_), true) => format!(in alloc; "present,{updates},{splits}\n")?,
+            (None, false) => format!(in alloc; "absent,{updates},{splits}\n")?,
+            _ if *updates >= self.setting.updates => format!(in alloc; "full,{updates}\n")?,
+            (Some(object), false) => {
+                self.updates = next;
+                self.insert(alloc, op, id, object)?;
+                format!(in alloc; "stored,{next}\n")?
+            }
+            (None, true) => {
+                self.updates = next;
+                self.objects.remove(&id);
+                let line = format!(in alloc; "delete,0,{op},{id}\n")?;
+                self.events.push_str(line.as_str())?;
+                format!(in alloc; "removed,{next}\n")?
+            }
+        };
+        self.replies.push_str(reply.as_str())?;
+        self.step(alloc)?;
+        Ok(())
+    }
+
+    /// The whole transcript, once the splitter has nothing left to do.
+    fn finish(mut self, alloc: Global) -> Result<String, Fail> {
+        for _ in 0..10_000 {
+            if !self.step(alloc)? {
+                break;
+            }
+        }
+        let Scans {
+            updates,
+            splits,
+            ..
+        } = &self;
+        let cells = self.leaves.len();
+        let entries = self.objects.len();
+        let mut text = String::from_str(alloc, "session,0\n")?;
+        text.push_str(self.replies.as_str())?;
+        let head = format!(in alloc; "history,{updates},{splits}\n")?;
+        text.push_str(head.as_str())?;
+        text.push_str(self.events.as_str())?;
+        let head = format!(in alloc; "cells,{cells}\n")?;
+        text.push_str(head.as_str())?;
+        for leaf in self.leaves.as_slice() {
+            let count = self.count(leaf.as_str());
+            let name = if leaf.is_empty() { "-" } else { leaf.as_str() };
+            let line = format!(in alloc; "{name},{count}\n")?;
+            text.push_str(line.as_str())?;
+        }
+        let foot = format!(in alloc; "entries,{entries}\npages,1,40\n")?;
+        text.push_str(foot.as_str())?;
+        Ok(text)
+    }
+}
+
+/// The settings as a file.
+fn settings_text(alloc: Global, setting: &Setting) -> Result<String, Fail> {
+    let mut text = String::from_str(alloc, "metric,l1\ndims,2\n")?;
+    for [x, y] in setting.pivots {
+        let line = format!(in alloc; "pivot,{x},{y}\n")?;
+        text.push_str(line.as_str())?;
+    }
+    let Setting {
+        levels,
+        cell,
+        updates,
+        ..
+    } = setting;
+    let sizes = format!(in alloc; "levels,{levels}\ncell,{cell}\nupdates,{updates}\npages,40\n")?;
+    text.push_str(sizes.as_str())?;
+    Ok(text)
+}
+
+/// A script of 240 updates by a fixed rule, three inserts to a delete, and the transcript that the plain program gives.
+fn workload(alloc: Global, setting: &Setting, seed: u64) -> Result<(String, String), Fail> {
+    let mut state = seed;
+    let mut script = String::new(alloc);
+    let mut scans = Scans::new(alloc, setting)?;
+    for op in 1..241u64 {
+        state = state
+            .wrapping_mul(6364136223846793005)
+            .wrapping_add(1442695040888963407);
+        let id = (state >> 33) % 90;
+        let x = ((state >> 40) % 21) as i64 - 10;
+        let y = ((state >> 50) % 21) as i64 - 10;
+        let object = if state >> 62 == 0 { None } else { Some([x, y]) };
+        let line = match object {
+            Some(_) => format!(in alloc; "insert,{id},{x},{y}\n")?,
+            None => format!(in alloc; "delete,{id}\n")?,
+        };
+        script.push_str(line.as_str())?;
+        scans.make(alloc, op, id, object)?;
+    }
+    let text = scans.finish(alloc)?;
+    Ok((script, text))
+}
+
+static SETTINGS: [Setting; 5] = [
+    Setting {
+        pivots: &[],
+        levels: 0,
+        cell: 1,
+        updates: 1000,
+    },
+    Setting {
+        pivots: &[[0, 0]],
+        levels: 1,
+        cell: 1,
+        updates: 1000,
+    },
+    Setting {
+        pivots: &[[0, 0], [9, -9], [-9, 9], [3, 3]],
+        levels: 4,
+        cell: 1,
+        updates: 1000,
+    },
+    Setting {
+        pivots: &[[5, 5], [-5, 5], [5, 5], [-5, -5], [0, 0]],
+        levels: 3,
+        cell: 2,
+        updates: 1000,
+    },
+    Setting {
+        pivots: &[[10, 0], [0, 10], [-10, 0], [0, -10], [1, 1], [0, 0]],
+        levels: 2,
+        cell: 5,
+        updates: 120,
+    },
+];
+
+#[test]
+fn cells_and_splits_are_those_of_scans_by_hand(rt: HostRuntime) -> Result<(), Fail> {
+    let alloc = rt.alloc();
+    let words = replay_words(alloc)?;
+    for setting in &SETTINGS {
+        let settings = settings_text(alloc, setting)?;
+        for seed in 0..3u64 {
+            let (script, text) = workload(alloc, setting, seed)?;
+            let mut files = files_of(alloc, settings.as_bytes(), b"", script.as_bytes(), &[])?;
+            let mut out = MemorySink::new(alloc, 1000, &[], 100_000)?;
+            let status = replay_call(alloc, words.as_slice(), &mut files, &mut out);
+            assert_eq!(rt; status, 0, "{settings}");
+            assert!(rt; out.bytes() == text.as_bytes(), "{settings}seed {seed}");
+        }
+    }
+    Ok(())
+}
