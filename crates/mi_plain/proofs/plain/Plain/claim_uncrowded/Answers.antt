@@ -6,8 +6,8 @@ use Rattle.mi_board.proofs.CrowdLemmas.{crowded_one}
 use Rattle.mi_plain.specs.Answering.{GrowsBySplits}
 use Rattle.mi_plain.specs.Plain.{IsPlain, NoClaims, work_left}
 use Rattle.mi_plain.proofs.CareLemmas.{crowded_is, crowded_may, less_work, none_after, reserved_after}
-use Rattle.mi_plain.proofs.SplitGrowthLemmas.{more_splits, one_split}
-use Rattle.mi_plain.proofs.SplittingLemmas.{plain_actor}
+use Rattle.mi_plain.proofs.RunningLemmas.{splits_on}
+use Rattle.mi_plain.proofs.SplittingLemmas.{one_split, plain_actor}
 use Rattle.mi_tree.specs.Counting.{is_crowded}
 use Rattle.mi_tree.specs.Legal.{LegalLog, MayFollow, cells_of}
 use Rattle.mi_plain.proofs.plain.Plain.claim_uncrowded.Goals as goal
@@ -64,7 +64,7 @@ loop-leaf-preserved c =
     record {
       settings = ap (λ (x : BoardState). x.settings) (now) ∙ ap (λ (x : BoardState). x.settings) was ∙ c.loop-leaf.invariant.settings;
       idle = subst NoClaims (sym now) (none_after p b.actors idle.0 idle.1);
-      grows = more_splits c.args.self.now.log c.loop-leaf.self.log c.split.new.self.log c.loop-leaf.invariant.grows
+      grows = splits_on c.args.self.now.log c.loop-leaf.self.log c.split.new.self.log c.loop-leaf.invariant.grows
           (subst (λ (x : BoardState). GrowsBySplits x.log c.split.new.self.log) was (subst (λ (x : BoardState). GrowsBySplits b.log x.log) (sym now) (one_split b.log p)));
       reserved = ap (λ (x : BoardState). (actor_at x.actors 0).reserved) now ∙ reserved_after p b.actors ∙ ap (λ (x : BoardState). (actor_at x.actors 0).reserved) was ∙ c.loop-leaf.invariant.reserved;
     }
