@@ -29,6 +29,10 @@ grows_on old mid new a b = record { by = a.by ++ b.by; is = b.is ∙ ap (λ l. l
 pub grows_length : (old new : List LogEvent) → Grows old new → length old ≤ length new
 grows_length old new g = omega (arith, ap length g.is, length-append old g.by)
 
+-- splits after splits
+pub splits_on : (old mid new : List LogEvent) → GrowsBySplits old mid → GrowsBySplits mid new → GrowsBySplits old new
+splits_on old mid new a b = record { grows = grows_on old mid new a.grows b.grows; enters = b.enters ∙ a.enters }
+
 -- each update is entered once
 pub length-updates_of : (log : List LogEvent) → length (updates_of log) ≡ length (entered log)
 length-updates_of log = length-map (entered log) (λ e. e.update)
