@@ -22,7 +22,7 @@ pub trait Sink {
         ensures count { faults self.old ≤ faults self.new };
 }
 
-/// Writes the whole piece. It makes no call after a failure, and none for an empty piece.
+/// Writes the whole piece, or a front of it where a write fails.
 pub fn write_all<S: Sink>(out: &mut S, piece: &[u8]) -> Result<(), SinkFailed>
     ensures { Sends (S.written out.old) (S.faults out.old) result (S.written out.new) (S.faults out.new) piece.now }
 {
