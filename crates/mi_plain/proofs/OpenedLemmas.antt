@@ -104,18 +104,23 @@ module _ (c : Configuration) (limits : IsWithinLimits c) (log : List LogEvent) (
       let most : n * length log ≤ 32 * 1400000 = mul-le n (length log) 32 1400000 limits.few_pivots (log_short c limits log legal) in
       omega (arith, all, most, first_few n, limits.few_pivots, length-map (leaves g log) (leaf_with g (held g log)))
 
-  -- the prefix of each is of the pivots
-  pub cells_below : AllByRecursion (λ (l : Leaf). all_below (length c.pivots) l.prefix ≡ true) (cells_of c log)
-  cells_below =
+  -- the prefix of each is of at most so many of the pivots
+  cells_fit : AllByRecursion (λ (l : Leaf). Fits (length c.pivots) c.levels l.prefix) (cells_of c log)
+  cells_fit =
       let g = grid c in
-      all_map (leaf_with g (held g log)) (λ l. all_below (length c.pivots) l.prefix ≡ true) (leaves g log)
-      (all_weaker (Fits g.pivots g.levels) (λ p. all_below (length c.pivots) p ≡ true) (λ p h. h.1) (leaves g log) (recursion_from_All (Fits g.pivots g.levels) (leaves g log) (leaves_fit g (is_grid c limits log legal) log (all_may c log legal))))
+      all_map (leaf_with g (held g log)) (λ l. Fits (length c.pivots) c.levels l.prefix) (leaves g log)
+      (recursion_from_All (Fits g.pivots g.levels) (leaves g log) (leaves_fit g (is_grid c limits log legal) log (all_may c log legal)))
 
--- the leaf at a place
-pub at_place : {X : Type 0} (P : X → Type 0) (xs : List X) (i : ℕ) (x : X) → AllByRecursion P xs → slice_get xs i ≡ Some x → P x
+-- what holds of all holds of the one at a place
+at_place : {X : Type 0} (P : X → Type 0) (xs : List X) (i : ℕ) (x : X) → AllByRecursion P xs → slice_get xs i ≡ Some x → P x
 at_place P [] i x h at = cc
 at_place P (y ∷ xs) zero x h at = let same : y ≡ x = cc in subst P same h.0
 at_place P (y ∷ xs) (suc i) x h at = at_place P xs i x h.1 at
+
+-- so the leaf at a place fits
+pub leaf_fits : (c : Configuration) → IsWithinLimits c → (log : List LogEvent) → LegalLog c log → (ls : List Leaf) → ls ≡ cells_of c log → (i : ℕ) (leaf : Leaf) → slice_get ls i ≡ Some leaf → Fits (length c.pivots) c.levels leaf.prefix
+leaf_fits c limits log legal ls same i leaf at =
+    at_place (λ (l : Leaf). Fits (length c.pivots) c.levels l.prefix) ls i leaf (subst (AllByRecursion (λ (l : Leaf). Fits (length c.pivots) c.levels l.prefix)) (sym same) (cells_fit c limits log legal)) at
 
 -- one more of a list passes a test, or not
 pub counted_more : {X : Type 0} (p : X → Bool) (xs : List X) (i : ℕ) (x : X) → slice_get xs i ≡ Some x → (b : Bool) → p x ≡ b → count_by p (take (i + 1) xs) ≡ count_by p (take i xs) + cond b 1 0

@@ -19,6 +19,7 @@ use Rattle.mi_base.proofs.SortingLemmas.{same_filter, same_length}
 use Rattle.mi_key.specs.declared.entries.Entry.{Entry}
 use Rattle.mi_key.specs.Entries.{Offering, object_of, offering_of}
 use Rattle.mi_key.specs.Keys.{parts_of}
+use Rattle.mi_plain.specs.Opening.{offerings}
 use Rattle.mi_plain.specs.Plain.{IsKept, object_in}
 use Rattle.mi_range.specs.Ranging.{compared}
 use Rattle.mi_rules.proofs.CandidateLemmas.{candidates_are}
@@ -27,10 +28,6 @@ use Rattle.mi_tree.proofs.LegalLemmas.{grid, all_may}
 use Rattle.mi_plain.specs.Answering.{Answers}
 use Rattle.mi_tree.specs.Legal.{LegalLog}
 use Rattle.mi_tree.specs.Passing.{lets_through, candidates, opened}
-
--- what is offered of the entries of a map
-abbrev pub offerings : List (ℕ × Entry) → List Offering
-offerings es = map (λ e. offering_of e.1) es
 
 -- the rows of what is offered
 abbrev pub offered_hits : Configuration → List ℤ → ℕ → List (ℕ × Entry) → List Row
@@ -96,10 +93,10 @@ module _ (c : Configuration) (log : List LogEvent) where
       ∙ same_length (filter T (map object_in es)) (filter T (live (updates_of log))) (same_filter T (map object_in es) (live (updates_of log)) same)
       ∙ ap length (sym (candidates_are (space_of c) c.levels limits.few_pivots limits.levels log may query radius))
 
-  -- a query that was offered all entries has its answer
+  -- a query that keeps and counts what it would of all entries has its answer
   pub range_answered : (limits : IsWithinLimits c) → LegalLog c log → (es : List (ℕ × Entry)) → AllByRecursion (λ e. IsKept c log e.0 e.1) es → SameElements (map object_in es) (live (updates_of log))
       → (op : ℕ) (query : List ℤ) (radius : ℕ) (at : Position) (rows : List Row) (cells distances' : ℕ)
-      → at ≡ end_of log → rows ≡ offered_hits c query radius es → cells ≡ opened (space_of c) c.levels log query radius
+      → at ≡ end_of log → sorted row_cmp rows ≡ sorted row_cmp (offered_hits c query radius es) → cells ≡ opened (space_of c) c.levels log query radius
       → distances' ≡ length c.pivots + compared (distances (space_of c) query) radius (offerings es)
       → Answers c log 0 op (Op.Range radius query) (Reply.Range at (sorted row_cmp rows) cells distances') log
   range_answered limits legal es kept same op query radius at rows cells work at_is rows_are cells_are work_is =
@@ -110,7 +107,7 @@ module _ (c : Configuration) (log : List LogEvent) where
         enters = sym (append-nil (entered log));
         right = record {
           position = end_is log;
-          rows_are = ap (sorted row_cmp) rows_are ∙ rows_scanned es kept same query radius ∙ ap (λ (l : List LogEvent). range_scan (metric_space c) (updates_of l) query radius) (sym whole);
+          rows_are = rows_are ∙ rows_scanned es kept same query radius ∙ ap (λ (l : List LogEvent). range_scan (metric_space c) (updates_of l) query radius) (sym whole);
           cells_are = cells_are ∙ ap (λ (l : List LogEvent). opened (space_of c) c.levels l query radius) (sym whole);
           distances_are = work_is ∙ ap (λ n. length c.pivots + n) (compared_candidates limits (all_may c log legal) es kept same query radius)
               ∙ ap (λ (l : List LogEvent). length c.pivots + length (candidates (space_of c) c.levels l query radius)) (sym whole);

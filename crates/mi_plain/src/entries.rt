@@ -1,10 +1,16 @@
 //! Entries under the keys of their leaves.
-ghost use Rattle.std.specs.Prelude.{◌≡◌, ◌≤◌, length};
+ghost use Rattle.std.specs.Prelude.{◌≡◌, ◌≤◌, IsTrue, OnOk, length};
+ghost use Rattle.mi_plain.specs.Opening.{AreMeasured, offerings, spanned};
 ghost use Rattle.mi_plain.specs.Plain.{rekeyed};
+ghost use Rattle.mi_range.specs.Ranging.{Takes};
 
-use mi_base::Prefix;
-use mi_key::{Entry, Key, cluster_number};
+use mi_base::{Id, NoMemory, Prefix, Steps, Vector};
+use mi_key::{Entry, Interval, Key, cluster_number};
+use mi_metric::Metric;
 use mi_perm::permutation;
+use mi_range::RangeWork;
+use std::collections::BTreeMap;
+use std::sync::ledger::Ledger;
 
 /// Puts an entry of a leaf that was split under the key of its child. Other entries keep their keys.
 pub fn rekey(entry: &mut Entry, split: &Prefix, levels: u32)
@@ -20,4 +26,26 @@ pub fn rekey(entry: &mut Entry, split: &Prefix, levels: u32)
     let parts = entry.key.parts();
     let cluster = cluster_number(&child, entry.dists.len() as u32, levels);
     entry.key = Key::make(cluster, parts.distance, parts.id, parts.birth);
+}
+
+/// Offers a query the entries whose keys the span has.
+pub fn offer_span<M: Metric, L: Ledger>(
+    entries: &BTreeMap<Id, Entry>,
+    span: &Interval,
+    work: &mut RangeWork,
+    metric: &M,
+    query: &Vector,
+    steps: &mut Steps<L>,
+) -> Result<(), NoMemory>
+    requires query { IsTrue ((M.space metric.now).fits query.now) }
+    requires measured { AreMeasured (M.space metric.now) query.now work.old.dists entries.now.entries }
+    ensures { OnOk result (Takes (M.space metric.now) query.now work.old steps.old (offerings (spanned span.now entries.now.entries)) work.new steps.new) }
+{
+    for (_, entry) in entries.iter() {
+        if span.has(&entry.key) {
+            work.room()?;
+            work.take(entry, metric, query, steps);
+        }
+    }
+    Ok(())
 }

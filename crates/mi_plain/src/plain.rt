@@ -1,7 +1,6 @@
 //! The plain list.
-ghost use Rattle.std.specs.Prelude.{◌≡◌, ◌+◌, ◌<◌, ◌≤◌, ◌∷◌, [], None, Some, cond, count_by, true, false, length, map, ℕ, ◌++◌, ◌^◌, All, IfErr, IfOk, IsTrue, OnErr, OnOk};
+ghost use Rattle.std.specs.Prelude.{◌≡◌, ◌+◌, ◌<◌, ◌≤◌, ◌∷◌, [], None, Some, cond, true, false, length, map, ℕ, ◌++◌, ◌^◌, All, IfErr, IfOk, IsTrue, OnErr, OnOk};
 ghost use Rattle.std.specs.List.{filter};
-ghost use Rattle.arrayvec.specs.ArrayVec.{array_vec_len};
 ghost use Rattle.mi_base.specs.Configuration.{IsWithinLimits, metric_space, space_of};
 ghost use Rattle.mi_base.specs.History.{end_of, is_live, live, updates_of};
 ghost use Rattle.mi_base.specs.Permutations.{distances, key_distance};
@@ -11,10 +10,9 @@ ghost use Rattle.mi_board.specs.Boards.{HasRoom, MayCommit, MayInsert, crowded_a
 ghost use Rattle.mi_plain.specs.Answering.{Answers, GrowsBySplits, Works};
 ghost use Rattle.mi_plain.specs.Plain.{IsKept, NoClaims, work_left};
 ghost use Rattle.mi_tree.specs.Counting.{belongs, beginning, placed};
-ghost use Rattle.mi_tree.specs.Passing.{passes};
 ghost use Rattle.mi_tree.specs.Legal.{LegalLog, MayFollow, Settled, cells_of};
 
-use crate::entries::rekey;
+use crate::entries::{offer_span, rekey};
 use mi_base::{
     Dists, Id, Log, LogEvent, NoMemory, Op, Perm, Position, Prefix, Reply, Settings, Steps, Update,
     Vector,
@@ -24,7 +22,7 @@ use mi_key::{Entry, Key, cluster_number};
 use mi_metric::Metric;
 use mi_perm::{Pivots, key_distance, permutation};
 use mi_range::RangeWork;
-use mi_rules::passes;
+use mi_rules::{passes, span};
 use mi_tree::{Leaf, LeafClaim, Leaves, Placed, ReserveRefusal, Work};
 use std::alloc::Global;
 use std::collections::BTreeMap;
@@ -205,30 +203,21 @@ impl Plain {
         let at = self.end();
         let dists = self.pivots.measure(metric, query, steps);
         let mut work = RangeWork::new(alloc, &dists, radius);
-        for (_, entry) in self.entries.iter() {
-            let Ok(()) = work.room() else {
-                return Reply::Memory;
-            };
-            work.take(entry, metric, query, steps);
-        }
-        work.finish(at, self.opened(&dists, radius))
-    }
-
-    /// How many leaves a query with these distances to the pivots opens.
-    fn opened(&self, dists: &Dists, radius: u32) -> u32
-        requires dists { array_vec_len dists.now ≡ length self.now.settings.pivots }
-        requires limits { IsWithinLimits self.now.settings }
-        requires legal { LegalLog self.now.settings self.now.log }
-        ensures { result ≡ count_by (passes dists.now.items radius) (cells_of self.now.settings self.now.log) }
-    {
+        let levels = self.levels;
+        let entries = &self.entries;
         let catalog = self.board.catalog();
-        let mut count = 0;
+        let mut opened = 0;
         for place in 0..catalog.len() {
-            if passes(catalog.leaf(place), dists, radius) {
-                count += 1;
+            let leaf = catalog.leaf(place);
+            if passes(leaf, &dists, radius) {
+                opened += 1;
+                let span = span(leaf, &dists, radius, levels);
+                let Ok(()) = offer_span(entries, &span, &mut work, metric, query, steps) else {
+                    return Reply::Memory;
+                };
             }
         }
-        count
+        work.finish(at, opened)
     }
 
     /// The cells.

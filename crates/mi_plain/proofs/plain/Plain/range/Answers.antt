@@ -1,89 +1,154 @@
-use Rattle.std.proofs.Common.{◌≡◌, ◌+◌, ◌≤◌, ◌∙◌, ◌++◌, sym, ap, refl, subst, arith, length, List, ℕ, ℤ, IsTrue, append-nil}
-use Rattle.std.specs.Prelude.{count_by, map}
+use Rattle.std.proofs.Common.{◌≡◌, ◌∙◌, ◌≤◌, sym, ap, subst, arith, length, List, ℕ, ℤ, IsTrue, Some}
+use Rattle.std.specs.Prelude.{count_by, map, slice_get}
 use Rattle.std.specs.List.{AllByRecursion}
-use Rattle.std.proofs.lemmas.List.{length-map}
+use Rattle.std.proofs.lemmas.List.{take_all}
 use Rattle.mi_base.specs.declared.records.Op.TheVariants.{Range}
 use Rattle.mi_base.specs.declared.records.Reply.{Reply}
-use Rattle.mi_base.specs.Space.{MetricSpace}
+use Rattle.mi_base.specs.Space.{IsMetric, MetricSpace}
 use Rattle.mi_base.specs.Configuration.{metric_space, space_of}
 use Rattle.mi_base.specs.History.{live, updates_of}
 use Rattle.mi_base.specs.Permutations.{distances}
+use Rattle.mi_base.specs.Prefixes.{all_below}
 use Rattle.mi_base.specs.Sorting.{SameElements}
 use Rattle.mi_board.specs.Boards.{BoardState}
 use Rattle.mi_key.specs.declared.entries.Entry.{Entry}
-use Rattle.mi_range.specs.Ranging.{Ranging, compared}
+use Rattle.mi_tree.specs.declared.outcomes.Leaf.{Leaf}
+use Rattle.mi_tree.specs.Catalogs.{Cells}
 use Rattle.mi_tree.specs.Legal.{cells_of}
 use Rattle.mi_tree.specs.Passing.{opened, passes}
-use Rattle.mi_plain.specs.Answering.{Answers}
+use Rattle.mi_plain.specs.Answering.{Answers, Works}
+use Rattle.mi_plain.specs.Opening.{AreMeasured}
 use Rattle.mi_plain.specs.Plain.{IsKept, object_in}
-use Rattle.mi_plain.proofs.RangeLemmas.{offerings, offered_hits, compared_few, length_live, range_answered}
+use Rattle.mi_plain.proofs.OpenedLemmas.{counted_more, few_cells, leaf_fits}
+use Rattle.mi_plain.proofs.OpeningLemmas.{are_measured, opened_passed, opened_taken, taken_all, taken_distances, taken_rows, taken_steps}
+use Rattle.mi_plain.proofs.RangeLemmas.{range_answered}
+use Rattle.mi_plain.proofs.plain.Plain.range.Given.{Over}
 use Rattle.mi_plain.proofs.plain.Plain.range.Goals as goal
+use Rattle.mi_plain.proofs.plain.Plain.range.Goals.{then-passes+in-Ok, else-passes}
 
-pub loop-entry-init : goal.loop-entry-init
-loop-entry-init g c =
+pub passes-requires : goal.passes-requires
+passes-requires g c =
     let s = c.args.self.now in
+    let leaf = c.leaf-leaf.result.now in
+    let same = ap (λ (k : Cells). k.leaves) c.catalog-catalog.ensures ∙ ap (λ (x : BoardState). cells_of x.settings x.log) c.self.view_is in
+    let fits = leaf_fits s.settings c.end-at.ensures.limits s.log c.end-at.ensures.legal c.catalog-catalog.result.now.leaves same c.loop-place.place leaf c.leaf-leaf.ensures in
+    let count : length c.measure-dists.result.items ≡ length s.settings.pivots = c.measure-dists.ensures.count ∙ ap length c.self.invariant.pivots_are ∙ ap (λ (x : BoardState). length x.settings.pivots) c.self.view_is in
+    subst (λ (n : ℕ). IsTrue (all_below n leaf.prefix)) (sym count) fits.1
+
+pub overflow_add-opened : goal.overflow_add-opened
+overflow_add-opened g c =
+    let s = c.args.self.now in
+    let same = ap (λ (k : Cells). k.leaves) c.catalog-catalog.ensures ∙ ap (λ (x : BoardState). cells_of x.settings x.log) c.self.view_is in
+    let few = few_cells s.settings c.end-at.ensures.limits s.log c.end-at.ensures.legal in
+    let within = c.loop-place-test.true in
+    let counted = c.loop-place.invariant.few in
+    omega (arith, few, within, counted, c.len-place-end.ensures, ap length same)
+
+pub span-span-requires-clause-pivots : goal.span-span-requires-clause-pivots
+span-span-requires-clause-pivots g c =
+    let s = c.args.self.now in
+    let leaf = c.leaf-leaf.result.now in
+    let same = ap (λ (k : Cells). k.leaves) c.catalog-catalog.ensures ∙ ap (λ (x : BoardState). cells_of x.settings x.log) c.self.view_is in
+    let fits = leaf_fits s.settings c.end-at.ensures.limits s.log c.end-at.ensures.legal c.catalog-catalog.result.now.leaves same c.loop-place.place leaf c.leaf-leaf.ensures in
+    let count : length c.measure-dists.result.items ≡ length s.settings.pivots = c.measure-dists.ensures.count ∙ ap length c.self.invariant.pivots_are ∙ ap (λ (x : BoardState). length x.settings.pivots) c.self.view_is in
+    subst (λ (n : ℕ). IsTrue (all_below n leaf.prefix)) (sym count) fits.1
+
+pub span-span-requires-clause-depth : goal.span-span-requires-clause-depth
+span-span-requires-clause-depth g c =
+    let s = c.args.self.now in
+    let leaf = c.leaf-leaf.result.now in
+    let same = ap (λ (k : Cells). k.leaves) c.catalog-catalog.ensures ∙ ap (λ (x : BoardState). cells_of x.settings x.log) c.self.view_is in
+    let fits = leaf_fits s.settings c.end-at.ensures.limits s.log c.end-at.ensures.legal c.catalog-catalog.result.now.leaves same c.loop-place.place leaf c.leaf-leaf.ensures in
+    let levels : c.self.inside.levels ≡ s.settings.levels = c.self.invariant.levels_are ∙ ap (λ (x : BoardState). x.settings.levels) c.self.view_is in
+    subst (λ (n : ℕ). length leaf.prefix ≤ n) (sym levels) fits.0
+
+pub offer_span-requires-clause-measured : goal.offer_span-requires-clause-measured
+offer_span-requires-clause-measured g c =
+    let s = c.args.self.now in
+    let k = s.settings in
     let es = c.self.inside.entries.entries in
-    let begun : c.into_iter-entry-iterator.result ≡ es = cc (c.into_iter-entry-iterator.ensures.into_iter_gives, c.iter-entry-items.ensures.rest) in
+    let query = c.args.query.now in
     let kept = subst (λ (x : BoardState). AllByRecursion (λ (e : ℕ × Entry). IsKept x.settings x.log e.0 e.1) es) c.self.view_is c.self.invariant.kept in
-    let same = subst (λ (x : BoardState). SameElements (map object_in es) (live (updates_of x.log))) c.self.view_is c.self.invariant.same in
-    let few = compared_few c.measure-dists.result.items c.args.radius c.into_iter-entry-iterator.result in
-    let long : length es ≤ length (updates_of s.log) = length_live es s.log same in
-    let size = ap length begun in
-    let pivots : length c.self.inside.pivots ≤ 32 = subst (λ (ps : List (List ℤ)). length ps ≤ 32) (sym c.self.invariant.pivots_are) c.self.invariant.limits.few_pivots in
-    let count = c.measure-dists.ensures.count in
-    record {
-      kept = subst (λ (xs : List (ℕ × Entry)). AllByRecursion (λ (e : ℕ × Entry). IsKept s.settings s.log e.0 e.1) xs) (sym begun) kept;
-      dists = c.new-work.ensures.dists;
-      radius = c.new-work.ensures.radius;
-      rows = rw c.new-work.ensures.rows refl;
-      counted = let made = c.new-work.ensures.distances in ap (λ (n : ℕ). n + compared c.measure-dists.result.items c.args.radius (offerings c.into_iter-entry-iterator.result)) made;
-      ticks = refl;
-      small = omega (arith, few, long, size, pivots, count, c.end-at.ensures.legal.few, c.end-at.ensures.limits.updates.1);
-    }
+    let pivots : c.self.inside.pivots ≡ k.pivots = c.self.invariant.pivots_are ∙ ap (λ (x : BoardState). x.settings.pivots) c.self.view_is in
+    let dq : c.loop-place.work.dists ≡ distances (space_of k) query =
+    c.loop-place.invariant.takes.same_dists ∙ c.new-work.ensures.dists ∙ c.measure-dists.ensures.distances ∙ ap (λ (m : MetricSpace). distances (record { metric = m; pivots = c.self.inside.pivots }) query) c.requires.space
+    ∙ ap (λ (xs : List (List ℤ)). distances (record { metric = metric_space k; pivots = xs }) query) pivots in
+    subst (λ (m : MetricSpace). AreMeasured m query c.loop-place.work.dists es) (sym c.requires.space) (are_measured k c.end-at.ensures.limits s.log query c.loop-place.work.dists dq es kept)
 
-pub take-requires-clause-measured : goal.take-requires-clause-measured
-take-requires-clause-measured g c =
+pub loop-place-preserved : goal.loop-place-preserved
+loop-place-preserved g c =
     let s = c.args.self.now in
-    let M = g.M.Metric.space c.args.metric.now in
-    let ps = c.self.inside.pivots in
-    let head = subst (λ (xs : List (ℕ × Entry)). AllByRecursion (λ (e : ℕ × Entry). IsKept s.settings s.log e.0 e.1) xs) c.in-Some.ensures.steps c.loop-entry.invariant.kept in
-    let pivots : ps ≡ s.settings.pivots = c.self.invariant.pivots_are ∙ ap (λ (x : BoardState). x.settings.pivots) c.self.view_is in
-    let fit = subst (λ (x : BoardState). AllByRecursion (λ pivot. IsTrue ((metric_space x.settings).fits pivot)) x.settings.pivots) c.self.view_is c.self.invariant.limits.pivots in
-    record {
-      pivots = ps;
-      pivots_fit = subst (λ (m : MetricSpace). AllByRecursion (λ p. IsTrue (m.fits p)) ps) (sym c.requires.space) (subst (λ (xs : List (List ℤ)). AllByRecursion (λ p. IsTrue ((metric_space s.settings).fits p)) xs) (sym pivots) fit);
-      of_query = ap (λ (r : Ranging). r.dists) c.room.ensures.same ∙ c.loop-entry.invariant.dists ∙ c.measure-dists.ensures.distances;
-      of_object = head.0.dists_are
-          ∙ ap (λ (m : MetricSpace). distances (record { metric = m; pivots = s.settings.pivots }) c.in-Some.entry.now.vector) (sym c.requires.space)
-          ∙ ap (λ (xs : List (List ℤ)). distances (record { metric = M; pivots = xs }) c.in-Some.entry.now.vector) (sym pivots);
-    }
+    let m = g.M.Metric.space c.args.metric.now in
+    let query = c.args.query.now in
+    let dq = c.measure-dists.result.items in
+    let es = c.self.inside.entries.entries in
+    let leaf = c.leaf-leaf.result.now in
+    let cells = cells_of s.settings s.log in
+    let same = ap (λ (k : Cells). k.leaves) c.catalog-catalog.ensures ∙ ap (λ (x : BoardState). cells_of x.settings x.log) c.self.view_is in
+    let here = subst (λ (ls : List Leaf). slice_get ls c.loop-place.place ≡ Some leaf) same c.leaf-leaf.ensures in
+    let one = counted_more (passes dq c.args.radius) cells c.loop-place.place leaf here c.passes.result (sym c.passes.ensures) in
+    let so_far = c.loop-place.invariant.counted in
+    let counted = c.loop-place.invariant.few in
+    elim c.if-passes.branch [
+      | then-passes+in-Ok w ↦
+          let step = rw w.if-passes.true at one in
+          record {
+            takes = rw (w.work-is, w.steps-is)
+                (opened_taken m query c.new-work.result c.loop-place.work w.offer_span.new.work c.measure-dists.new.steps c.loop-place.steps w.offer_span.new.steps dq c.args.radius c.self.inside.levels es cells c.loop-place.place leaf
+                w.span-span.result here (sym c.passes.ensures ∙ w.if-passes.true) w.span-span.ensures c.loop-place.invariant.takes w.in-Ok.ensures);
+            counted = omega (arith, step, so_far, w.opened-is);
+            few = omega (arith, counted, w.opened-is);
+          }
+      | else-passes w ↦
+          let step = rw w.if-passes.false at one in
+          record {
+            takes = rw (w.work-is, w.steps-is)
+                (opened_passed m query c.new-work.result c.loop-place.work c.measure-dists.new.steps c.loop-place.steps dq c.args.radius c.self.inside.levels es cells c.loop-place.place leaf
+                here (sym c.passes.ensures ∙ w.if-passes.false) c.loop-place.invariant.takes);
+            counted = omega (arith, step, so_far, w.opened-is);
+            few = omega (arith, counted, w.opened-is);
+          }
+    ]
 
-pub returns-clause-answers : goal.returns-clause-answers
-returns-clause-answers g c op =
+-- what was offered of the leaves gives the answer and its steps
+both : (g : Over) (c : goal.After-finish g)
+    → ((op : ℕ) → Answers c.args.self.now.settings c.args.self.now.log 0 op (Range c.args.radius c.args.query.now) c.finish.result c.args.self.now.log) × Works c.args.steps.now c.finish.result c.loop-place.steps
+both g c =
     let s = c.args.self.now in
     let k = s.settings in
     let M = g.M.Metric.space c.args.metric.now in
     let es = c.self.inside.entries.entries in
     let query = c.args.query.now in
     let radius = c.args.radius in
-    let begun : c.into_iter-entry-iterator.result ≡ es = cc (c.into_iter-entry-iterator.ensures.into_iter_gives, c.iter-entry-items.ensures.rest) in
-    let over = c.in-None.ensures.steps.0 in
+    let limits = c.end-at.ensures.limits in
+    let legal = c.end-at.ensures.legal in
+    let cells = cells_of k s.log in
     let kept = subst (λ (x : BoardState). AllByRecursion (λ (e : ℕ × Entry). IsKept x.settings x.log e.0 e.1) es) c.self.view_is c.self.invariant.kept in
     let same = subst (λ (x : BoardState). SameElements (map object_in es) (live (updates_of x.log))) c.self.view_is c.self.invariant.same in
     let pivots : c.self.inside.pivots ≡ k.pivots = c.self.invariant.pivots_are ∙ ap (λ (x : BoardState). x.settings.pivots) c.self.view_is in
+    let levels : c.self.inside.levels ≡ k.levels = c.self.invariant.levels_are ∙ ap (λ (x : BoardState). x.settings.levels) c.self.view_is in
     let dq : c.measure-dists.result.items ≡ distances (space_of k) query =
     c.measure-dists.ensures.distances ∙ ap (λ (m : MetricSpace). distances (record { metric = m; pivots = c.self.inside.pivots }) query) c.requires.space
     ∙ ap (λ (xs : List (List ℤ)). distances (record { metric = metric_space k; pivots = xs }) query) pivots in
-    let rows : c.loop-entry.work.rows ≡ offered_hits k query radius es =
-    sym (append-nil c.loop-entry.work.rows) ∙ ap (λ (xs : List (ℕ × Entry)). c.loop-entry.work.rows ++ offered_hits k query radius xs) (sym over)
-    ∙ c.loop-entry.invariant.rows ∙ ap (offered_hits k query radius) begun in
-    let left = ap (λ (xs : List (ℕ × Entry)). compared c.measure-dists.result.items radius (offerings xs)) over in
-    let all = ap (λ (xs : List (ℕ × Entry)). compared c.measure-dists.result.items radius (offerings xs)) begun in
-    let named = ap (λ (ds : List ℕ). compared ds radius (offerings es)) dq in
-    let counted = c.loop-entry.invariant.counted in
-    let long : length c.measure-dists.result.items ≡ length k.pivots = ap length dq ∙ length-map k.pivots (λ (p : List ℤ). (metric_space k).d query p) in
-    let work : c.loop-entry.work.distances ≡ length k.pivots + compared (distances (space_of k) query) radius (offerings es) = omega (arith, counted, left, all, named, long) in
-    let cells : c.opened.result ≡ opened (space_of k) k.levels s.log query radius = c.opened.ensures ∙ ap (λ (ds : List ℕ). count_by (passes ds radius) (cells_of k s.log)) dq in
-    subst (λ (y : Reply). Answers k s.log 0 op (Range radius query) y s.log) (sym c.finish.ensures)
-    (range_answered k s.log c.end-at.ensures.limits c.end-at.ensures.legal es kept same op query radius c.end-at.result c.loop-entry.work.rows c.opened.result c.loop-entry.work.distances
-    c.end-at.ensures.end rows cells work)
+    let leaves = ap (λ (x : Cells). x.leaves) c.catalog-catalog.ensures ∙ ap (λ (x : BoardState). cells_of x.settings x.log) c.self.view_is in
+    let whole : length cells ≤ c.loop-place.place = omega (arith, c.loop-place-test.false, c.len-place-end.ensures, ap length leaves) in
+    let taken = taken_all k s.log query radius es M c.measure-dists.result.items c.self.inside.levels c.loop-place.place c.new-work.result c.loop-place.work c.measure-dists.new.steps c.loop-place.steps c.requires.space dq levels whole c.loop-place.invariant.takes in
+    let first_dists = c.new-work.ensures.dists ∙ dq in
+    let begun : c.new-work.result.distances ≡ length k.pivots = c.new-work.ensures.distances ∙ c.measure-dists.ensures.count ∙ ap length pivots in
+    let metric : IsMetric (metric_space k) = subst IsMetric c.requires.space (g.met.M.Metric.laws c.args.metric.now) in
+    let rows = taken_rows k limits s.log legal query radius es kept same c.new-work.result c.loop-place.work c.measure-dists.new.steps c.loop-place.steps first_dists c.new-work.ensures.radius taken metric c.requires.fits c.new-work.ensures.rows in
+    let work = taken_distances k limits s.log legal query radius es kept same c.new-work.result c.loop-place.work c.measure-dists.new.steps c.loop-place.steps first_dists c.new-work.ensures.radius taken begun in
+    let opened_are : c.loop-place.opened ≡ opened (space_of k) k.levels s.log query radius =
+    c.loop-place.invariant.counted ∙ ap (λ (ls : List Leaf). count_by (passes c.measure-dists.result.items radius) ls) (take_all c.loop-place.place cells whole) ∙ ap (λ (ds : List ℕ). count_by (passes ds radius) cells) dq in
+    let ticks = taken_steps k limits s.log legal query radius es kept same c.new-work.result c.loop-place.work c.measure-dists.new.steps c.loop-place.steps first_dists c.new-work.ensures.radius taken in (
+      λ op. subst (λ (y : Reply). Answers k s.log 0 op (Range radius query) y s.log) (sym c.finish.ensures)
+          (range_answered k s.log limits legal es kept same op query radius c.end-at.result c.loop-place.work.rows c.loop-place.opened c.loop-place.work.distances
+          c.end-at.ensures.end rows opened_are work),
+      subst (λ (y : Reply). Works c.args.steps.now y c.loop-place.steps) (sym c.finish.ensures) (omega (arith, work, ticks, c.measure-dists.ensures.steps, ap length pivots)),
+    )
+
+pub returns-clause-answers : goal.returns-clause-answers
+returns-clause-answers g c = (both g c).0
+
+pub returns-clause-work : goal.returns-clause-work
+returns-clause-work g c = (both g c).1

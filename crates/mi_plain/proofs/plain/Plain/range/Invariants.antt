@@ -1,21 +1,18 @@
-use Rattle.std.proofs.Common.{◌≡◌, ◌+◌, ◌++◌, ◌<◌, ◌^◌, length}
-use Rattle.std.specs.List.{AllByRecursion}
-use Rattle.mi_range.specs.Ranging.{compared}
-use Rattle.mi_plain.specs.Plain.{IsKept}
-use Rattle.mi_plain.proofs.RangeLemmas.{offerings, offered_hits}
+use Rattle.std.proofs.Common.{◌≡◌, ◌≤◌, take}
+use Rattle.std.specs.Prelude.{count_by}
+use Rattle.mi_tree.specs.Legal.{cells_of}
+use Rattle.mi_tree.specs.Passing.{passes}
+use Rattle.mi_range.specs.Ranging.{Takes}
+use Rattle.mi_plain.specs.Opening.{offerings}
+use Rattle.mi_plain.proofs.OpeningLemmas.{opened_entries}
 use Rattle.mi_plain.proofs.plain.Plain.range.Given as goal
 
--- what was kept of the entries so far, with what is offered of the others, is what is offered of all
-abbrev pub invariant-loop-entry : goal.invariant-loop-entry
-invariant-loop-entry g l =
-    let c = l.self.settings in
-    let dq = l.dists.items in
+-- the leaves so far that pass are counted, and their entries were offered
+abbrev pub invariant-loop-place : goal.invariant-loop-place
+invariant-loop-place g l =
+    let cells = cells_of l.self.settings l.self.log in
     record {
-      kept : AllByRecursion (λ e. IsKept c l.self.log e.0 e.1) l.entry-iterator;
-      dists : l.work.dists ≡ dq;
-      radius : l.work.radius ≡ l.radius;
-      rows : l.work.rows ++ offered_hits c l.query l.radius l.entry-iterator ≡ offered_hits c l.query l.radius l.initial.entry-iterator;
-      counted : l.work.distances + compared dq l.radius (offerings l.entry-iterator) ≡ length dq + compared dq l.radius (offerings l.initial.entry-iterator);
-      ticks : l.steps + compared dq l.radius (offerings l.entry-iterator) ≡ l.initial.steps + compared dq l.radius (offerings l.initial.entry-iterator);
-      small : length dq + compared dq l.radius (offerings l.initial.entry-iterator) < 2 ^ 64;
+      takes : Takes (g.M.Metric.space l.metric) l.query l.initial.work l.initial.steps (offerings (opened_entries l.dists.items l.radius l.levels l.entries.entries (take l.place cells))) l.work l.steps;
+      counted : l.opened ≡ count_by (passes l.dists.items l.radius) (take l.place cells);
+      few : l.opened ≤ l.place;
     }

@@ -1,0 +1,31 @@
+-- What a query is offered of one span.
+use Rattle.std.proofs.Common.{◌≡◌, ℕ, ℤ, List, [], ◌∷◌, true, false, refl, sym, ap, subst, arith, append-nil}
+use Rattle.mi_base.specs.Space.{MetricSpace}
+use Rattle.mi_key.specs.declared.entries.Entry.{Entry}
+use Rattle.mi_key.specs.declared.ranges.Interval.{Interval}
+use Rattle.mi_key.specs.Entries.{offering_of}
+use Rattle.mi_key.specs.Ranges.{is_within}
+use Rattle.mi_range.specs.Ranging.{Ranging, Takes}
+use Rattle.mi_range.proofs.TakeLemmas.{takes_more}
+use Rattle.mi_plain.specs.Opening.{offerings, spanned}
+
+-- room for more rows takes nothing
+pub takes_room : (m : MetricSpace) (query : List ℤ) (w v : Ranging) (n : ℕ) → v ≡ record { dists = w.dists; radius = w.radius; rows = w.rows; distances = w.distances; spare = v.spare } → Takes m query w n [] v n
+takes_room m query w v n same =
+    let made : Ranging = record { dists = w.dists; radius = w.radius; rows = w.rows; distances = w.distances; spare = v.spare } in
+    let here : Takes m query w n [] made n =
+    record { same_dists = refl; same_radius = refl; rows_are = sym (append-nil w.rows); distances_are = λ _. omega arith; ticks = omega arith } in
+    subst (λ (x : Ranging). Takes m query w n [] x n) (sym same) here
+
+-- an entry that the span has was offered, and then the others
+pub offered_in : (m : MetricSpace) (query : List ℤ) (span : Interval) (w v u x : Ranging) (n k l : ℕ) (e : ℕ × Entry) (es : List (ℕ × Entry)) → is_within span e.1.key ≡ true
+    → v ≡ record { dists = w.dists; radius = w.radius; rows = w.rows; distances = w.distances; spare = v.spare }
+    → Takes m query v n (offering_of e.1 ∷ []) u k → Takes m query u k (offerings (spanned span es)) x l → Takes m query w n (offerings (spanned span (e ∷ es))) x l
+offered_in m query span w v u x n k l e es has same one rest =
+    let first = takes_more m query w v u n n k [] (offering_of e.1 ∷ []) (takes_room m query w v n same) one in
+    rw has (takes_more m query w u x n k l (offering_of e.1 ∷ []) (offerings (spanned span es)) first rest)
+
+-- and one that it hasn't wasn't
+pub offered_out : (m : MetricSpace) (query : List ℤ) (span : Interval) (w x : Ranging) (n l : ℕ) (e : ℕ × Entry) (es : List (ℕ × Entry)) → is_within span e.1.key ≡ false
+    → Takes m query w n (offerings (spanned span es)) x l → Takes m query w n (offerings (spanned span (e ∷ es))) x l
+offered_out m query span w x n l e es has rest = rw has rest
