@@ -10,7 +10,7 @@ use Rattle.mi_range.proofs.TakeLemmas.{takes_more}
 use Rattle.mi_plain.specs.Opening.{offerings, spanned}
 
 -- room for more rows takes nothing
-pub takes_room : (m : MetricSpace) (query : List ℤ) (w v : Ranging) (n : ℕ) → v ≡ record { dists = w.dists; radius = w.radius; rows = w.rows; distances = w.distances; spare = v.spare } → Takes m query w n [] v n
+takes_room : (m : MetricSpace) (query : List ℤ) (w v : Ranging) (n : ℕ) → v ≡ record { dists = w.dists; radius = w.radius; rows = w.rows; distances = w.distances; spare = v.spare } → Takes m query w n [] v n
 takes_room m query w v n same =
     let made : Ranging = record { dists = w.dists; radius = w.radius; rows = w.rows; distances = w.distances; spare = v.spare } in
     let here : Takes m query w n [] made n =
