@@ -1,9 +1,8 @@
 -- One operation's answer, made of what was found and what was entered.
 use Rattle.std.proofs.Common.{◌≡◌, ℕ, zero, suc, ◌+◌, ◌-◌, ◌<◌, ◌≤◌, List, [], ◌∷◌, ◌++◌, length, map, take, true, false, Some, refl, sym, ap, ◌∙◌, subst, arith, length-append, append-nil, append_assoc, ℤ}
 use Rattle.std.specs.Prelude.{slice_get}
-use Rattle.std.proofs.lemmas.List.{length-map}
 use Rattle.std.proofs.lemmas.Option.{slice_get_read}
-use Rattle.std.proofs.Math.Seq.{take-length, take-append_seam, get_or-append_seam}
+use Rattle.std.proofs.Math.Seq.{take-append_seam, get_or-append_seam}
 use Rattle.mi_base.specs.declared.records.LogEvent.{LogEvent}
 use Rattle.mi_base.specs.declared.records.LogEvent.TheVariants.{Update as Made, Split}
 use Rattle.mi_base.specs.declared.records.Update.{Update}
@@ -14,34 +13,20 @@ use Rattle.mi_base.specs.declared.records.Reply.{Reply}
 use Rattle.mi_base.specs.declared.records.Reply.TheVariants.{Stored, Removed, Present, Absent}
 use Rattle.mi_base.specs.declared.records.Position.{Position}
 use Rattle.mi_base.specs.Configuration.{Configuration}
-use Rattle.mi_base.specs.History.{Entered, IsPosition, at_position, end_of, entered, events_at, is_live, updates_of}
-use Rattle.mi_base.proofs.HistoryLemmas.{entered-append, few_updates, updates_of-append}
+use Rattle.mi_base.specs.History.{Entered, end_of, entered, is_live, updates_of}
+use Rattle.mi_base.proofs.HistoryLemmas.{entered-append, updates_of-append}
 use Rattle.mi_tree.specs.InTurn.{BeganAt}
 use Rattle.mi_tree.specs.Legal.{accepted, events_to}
 use Rattle.mi_tree.specs.Right.{IsUpdateNumber, Right, before}
+use Rattle.mi_plain.proofs.GrowingLemmas.{length-updates_of}
+use Rattle.mi_plain.proofs.RangeLemmas.{at_end, end_events, end_is}
+use Rattle.mi_plain.proofs.GrowingLemmas.{grows_none}
 use Rattle.mi_plain.specs.Answering.{Answers, Grows, GrowsBySplits, TellsBetween}
-
--- the end of a log is one of its positions, and names the whole log
-pub events_at_end : (log : List LogEvent) → events_at (end_of log) ≡ length log
-events_at_end log = omega (arith, few_updates log)
-
-pub at_end : (log : List LogEvent) → at_position log (end_of log) ≡ log
-at_end log = ap (λ n. take n log) (events_at_end log) ∙ take-length log
-
-pub end_position : (log : List LogEvent) → IsPosition log (end_of log)
-end_position log = record {
-  within = omega (arith, events_at_end log);
-  updates = ap (λ (l : List LogEvent). length (updates_of l)) (at_end log);
-}
-
--- a log goes on by nothing
-pub stays : (log : List LogEvent) → Grows log log
-stays log = record { by = []; is = sym (append-nil log) }
 
 -- nothing was entered
 pub unchanged : (c : Configuration) (log : List LogEvent) (session op : ℕ) (o : Op) (y : Reply) → accepted session op o y ≡ [] → Right c log session op o y → BeganAt (length (updates_of log)) y → TellsBetween log log y → Answers c log session op o y log
 unchanged c log session op o y none right began tells = record {
-  grows = stays log;
+  grows = grows_none log;
   enters = sym (append-nil (entered log)) ∙ ap (λ es. entered log ++ es) (sym none);
   right = right;
   began = began;
@@ -52,22 +37,18 @@ unchanged c log session op o y none right began tells = record {
 pub present_answered : (c : Configuration) (log : List LogEvent) (session op id : ℕ) (v : List ℤ) (p : Position) → p ≡ end_of log → is_live id (updates_of log) ≡ true → Answers c log session op (Insert id v) (Present p) log
 present_answered c log session op id v p is live =
     subst (λ (x : Position). Answers c log session op (Insert id v) (Present x) log) (sym is)
-    (unchanged c log session op (Insert id v) (Present (end_of log)) refl (end_position log, ap (λ (l : List LogEvent). is_live id (updates_of l)) (at_end log) ∙ live) refl (omega (arith, events_at_end log), omega (arith, events_at_end log)))
+    (unchanged c log session op (Insert id v) (Present (end_of log)) refl (end_is log, ap (λ (l : List LogEvent). is_live id (updates_of l)) (at_end log) ∙ live) refl (omega (arith, end_events log), omega (arith, end_events log)))
 
 -- the identifier wasn't live at the end
 pub absent_answered : (c : Configuration) (log : List LogEvent) (session op id : ℕ) (p : Position) → p ≡ end_of log → is_live id (updates_of log) ≡ false → Answers c log session op (Delete id) (Absent p) log
 absent_answered c log session op id p is gone =
     subst (λ (x : Position). Answers c log session op (Delete id) (Absent x) log) (sym is)
-    (unchanged c log session op (Delete id) (Absent (end_of log)) refl (end_position log, ap (λ (l : List LogEvent). is_live id (updates_of l)) (at_end log) ∙ gone) refl (omega (arith, events_at_end log), omega (arith, events_at_end log)))
+    (unchanged c log session op (Delete id) (Absent (end_of log)) refl (end_is log, ap (λ (l : List LogEvent). is_live id (updates_of l)) (at_end log) ∙ gone) refl (omega (arith, end_events log), omega (arith, end_events log)))
 
 slice_get-append_seam : {X : Type 0} (xs : List X) (y : X) (ys : List X) → slice_get (xs ++ y ∷ ys) (length xs) ≡ Some y
 slice_get-append_seam xs y ys =
     let within : length xs < length (xs ++ y ∷ ys) = omega (arith, length-append xs (y ∷ ys)) in
     slice_get_read (xs ++ y ∷ ys) (length (xs ++ y ∷ ys)) (length xs) y refl within (sym (get_or-append_seam xs y ys y))
-
--- each update is entered once
-length-updates_of : (log : List LogEvent) → length (updates_of log) ≡ length (entered log)
-length-updates_of log = length-map (entered log) (λ e. e.update)
 
 -- the update that a log has just gained is its last
 number_gained : (old : List LogEvent) (session op n : ℕ) (u : Update) → n ≡ length (updates_of old) + 1 → IsUpdateNumber (old ++ Made session op u ∷ []) n (record { session = session; op = op; update = u })
@@ -147,7 +128,7 @@ pub delete_answered : (c : Configuration) (old new : List LogEvent) (session op 
     → new ≡ old ++ Made session op (update.Delete id) ∷ [] → Answers c old session op (Delete id) (Removed n) new
 delete_answered c old new session op id n is live grown =
     let u = update.Delete id in
-    let by : GrowsBySplits old old = record { grows = stays old; enters = refl } in
+    let by : GrowsBySplits old old = record { grows = grows_none old; enters = refl } in
     record {
       grows = grows_updated old old new by session op n u is grown;
       enters = enters_updated old old new by session op n u is grown;

@@ -1,7 +1,8 @@
 -- What the splitter finds to do.
-use Rattle.std.proofs.Common.{◌≡◌, ℕ, ℤ, ◌+◌, ◌-◌, ◌*◌, ◌<◌, ◌++◌, List, [], ◌∷◌, map, length, Bool, true, false, cond, not, ◌&&◌, ◌||◌, Option, Some, None, refl, sym, ap, ◌∙◌, subst, arith, length-append}
+use Rattle.std.proofs.Common.{nat_le, nat_lt, ◌≡◌, ℕ, ℤ, ◌+◌, ◌-◌, ◌*◌, ◌<◌, ◌≤◌, ◌++◌, List, [], ◌∷◌, map, length, Bool, true, false, cond, not, ◌&&◌, ◌||◌, Option, Some, None, refl, sym, ap, ◌∙◌, subst, arith, length-append}
 use Rattle.std.specs.List.{filter, find, list_any}
-use Rattle.std.proofs.lemmas.Bool.{and_parts, or_right}
+use Rattle.std.proofs.lemmas.Bool.{and_from, and_parts, or_right}
+use Rattle.std.proofs.lemmas.Bool.Decides.{nat_tests}
 use Rattle.mi_base.specs.declared.records.LogEvent.{LogEvent}
 use Rattle.mi_base.specs.declared.records.LogEvent.TheVariants.{Split}
 use Rattle.mi_base.specs.Configuration.{Configuration, IsWithinLimits}
@@ -9,7 +10,7 @@ use Rattle.mi_base.specs.History.{live, splits_of, updates_of}
 use Rattle.mi_base.specs.Permutations.{begins}
 use Rattle.mi_base.proofs.HistoryLemmas.{few_updates}
 use Rattle.mi_board.specs.declared.actors.ActorState.{ActorState}
-use Rattle.mi_board.specs.Actors.{actor_at, is_claim, is_claimed}
+use Rattle.mi_board.specs.Actors.{actor_at, change, claiming, is_claim, is_claimed, released}
 use Rattle.mi_board.specs.Boards.{BoardState, first_wanted, is_free}
 use Rattle.mi_board.proofs.BoardLemmas.{split_legal}
 use Rattle.mi_key.specs.declared.entries.Entry.{Entry}
@@ -18,7 +19,7 @@ use Rattle.mi_plain.proofs.SplittingLemmas.{config_grid}
 use Rattle.mi_tree.specs.declared.outcomes.Leaf.{Leaf}
 use Rattle.mi_tree.specs.declared.counts.Placed.{Placed}
 use Rattle.mi_tree.specs.Cells.{same_cell}
-use Rattle.mi_tree.specs.Counting.{beginning, belongs, is_wanted, placed}
+use Rattle.mi_tree.specs.Counting.{beginning, belongs, is_crowded, is_splittable, is_wanted, placed}
 use Rattle.mi_tree.specs.Legal.{LegalLog, MayFollow, Settled, cells_of}
 use Rattle.mi_tree.proofs.LeafLemmas.{same_self}
 use Rattle.mi_tree.proofs.LegalLemmas.{grid, updates_of_split}
@@ -79,11 +80,6 @@ none_wanted b free (l ∷ ls) h =
       | false ↦ λ k. none_wanted b free ls k
     ]) h
 
-module _ (b : BoardState) (pivots : List (List ℤ)) (levels cell : ℕ) (entries : List (ℕ × Entry)) (is : IsPlain b pivots levels cell entries) where
-  -- nothing to do
-  pub settled : NoClaims b → first_wanted b ≡ None → Settled b.settings b.log
-  settled idle none = none_wanted b (unclaimed b.actors is.two idle.0 idle.1) (cells_of b.settings b.log) none
-
 -- a split leaves less to do
 pub less_work : (c : Configuration) (limits : IsWithinLimits c) (log : List LogEvent) (p : List ℕ) (n : ℕ) → LegalLog c log → MayFollow c log (Split p)
     → 2 * (c.updates * c.levels - splits_of (log ++ Split p ∷ [])) + (n + 1) < 2 * (c.updates * c.levels - splits_of log) + n
@@ -98,3 +94,36 @@ less_work c limits log p n legal may =
       ap length (updates_of_split log p),
       few_updates log,
     )
+
+-- a crowded leaf is to be split
+pub crowded_wanted : (levels cell : ℕ) (leaf : Leaf) → 1 ≤ cell → is_crowded levels cell leaf ≡ true → is_wanted levels cell leaf ≡ true
+crowded_wanted levels cell leaf some h =
+    let parts = and_parts (is_splittable levels leaf) (nat_le (4 * cell) leaf.count) h in
+    let full : nat_le (4 * cell) leaf.count ≡ true = parts.1 in
+    let more : nat_lt cell leaf.count ≡ true = grind (arith, nat_tests) in
+    and_from (is_splittable levels leaf) (nat_lt cell leaf.count) parts.0 more
+
+-- a claim of the first actor that ends in a split leaves none, where there was none, and the reservation as it was
+pub none_after : (p : List ℕ) (actors : List ActorState) → (actor_at actors 0).claim ≡ None → (actor_at actors 1).claim ≡ None
+    → ((actor_at (change released 0 (change (claiming p) 0 actors)) 0).claim ≡ None) × ((actor_at (change released 0 (change (claiming p) 0 actors)) 1).claim ≡ None)
+none_after p [] f s = (refl, refl)
+none_after p (a ∷ actors) f s = (refl, s)
+
+pub reserved_after : (p : List ℕ) (actors : List ActorState) → (actor_at (change released 0 (change (claiming p) 0 actors)) 0).reserved ≡ (actor_at actors 0).reserved
+reserved_after p [] = refl
+reserved_after p (a ∷ actors) = refl
+
+module _ (b : BoardState) (pivots : List (List ℤ)) (levels cell : ℕ) (entries : List (ℕ × Entry)) (is : IsPlain b pivots levels cell entries) where
+  -- nothing to do
+  pub settled : NoClaims b → first_wanted b ≡ None → Settled b.settings b.log
+  settled idle none = none_wanted b (unclaimed b.actors is.two idle.0 idle.1) (cells_of b.settings b.log) none
+
+  -- the test of the leaf of a permutation
+  pub crowded_is : (leaf : Leaf) → is_crowded b.settings.levels b.settings.cell leaf ≡ is_crowded levels cell leaf
+  crowded_is leaf = ap (λ (n : ℕ). is_crowded n b.settings.cell leaf) (sym is.levels_are) ∙ ap (λ (n : ℕ). is_crowded levels n leaf) (sym is.cell_is)
+
+  -- a crowded leaf may be split
+  pub crowded_may : (perm : List ℕ) (leaf : Leaf) → beginning perm (cells_of b.settings b.log) ≡ leaf ∷ [] → is_crowded levels cell leaf ≡ true → MayFollow b.settings b.log (Split leaf.prefix)
+  crowded_may perm leaf one full =
+      beginning_wanted b.settings.levels b.settings.cell perm (cells_of b.settings b.log) leaf one
+      (crowded_wanted b.settings.levels b.settings.cell leaf is.limits.cell.0 (crowded_is leaf ∙ full))

@@ -1,8 +1,8 @@
--- What is right in a log is right in one that goes on, and a reply's position reaches as far there.
-use Rattle.std.proofs.Common.{◌≡◌, ℕ, zero, suc, ◌+◌, ◌-◌, ◌<◌, ◌≤◌, List, [], ◌∷◌, ◌++◌, length, take, Some, get_or, refl, sym, ap, ◌∙◌, arith, length-append, append-nil}
+-- Logs that go on. What is right in a log is right in one that goes on, and a reply's position reaches as far there.
+use Rattle.std.proofs.Common.{◌≡◌, ℕ, zero, suc, ◌+◌, ◌-◌, ◌<◌, ◌≤◌, List, [], ◌∷◌, ◌++◌, length, take, Some, refl, sym, ap, ◌∙◌, arith, length-append, append-nil, append_assoc}
 use Rattle.std.specs.Prelude.{ℤ, slice_get}
-use Rattle.std.proofs.lemmas.List.{length-map, take-append-le}
-use Rattle.std.proofs.lemmas.Option.{slice_get_within, slice_get_read, slice_get-get_or}
+use Rattle.std.proofs.lemmas.List.{length-map, nil_from_length, take-append-le}
+use Rattle.std.proofs.lemmas.Option.{get_or_from_slice_get, slice_get_read, slice_get_within}
 use Rattle.std.proofs.Math.ListN.{get_or-append}
 use Rattle.mi_base.specs.declared.records.LogEvent.{LogEvent}
 use Rattle.mi_base.specs.declared.records.LogEvent.TheVariants.{Update as Made, Split}
@@ -18,6 +18,20 @@ use Rattle.mi_base.proofs.HistoryLemmas.{entered-append, updates_of-append}
 use Rattle.mi_tree.specs.Legal.{events_to, reach}
 use Rattle.mi_tree.specs.Passing.{opened, candidates}
 use Rattle.mi_tree.specs.Right.{Right, IsUpdateNumber, IsRange, before}
+use Rattle.mi_plain.specs.Answering.{Grows, GrowsBySplits}
+
+pub grows_none : (log : List LogEvent) → Grows log log
+grows_none log = record { by = []; is = sym (append-nil log) }
+
+pub grows_on : (old mid new : List LogEvent) → Grows old mid → Grows mid new → Grows old new
+grows_on old mid new a b = record { by = a.by ++ b.by; is = b.is ∙ ap (λ l. l ++ b.by) a.is ∙ append_assoc old a.by b.by }
+
+pub grows_length : (old new : List LogEvent) → Grows old new → length old ≤ length new
+grows_length old new g = omega (arith, ap length g.is, length-append old g.by)
+
+-- splits after splits
+pub splits_on : (old mid new : List LogEvent) → GrowsBySplits old mid → GrowsBySplits mid new → GrowsBySplits old new
+splits_on old mid new a b = record { grows = grows_on old mid new a.grows b.grows; enters = b.enters ∙ a.enters }
 
 -- each update is entered once
 pub length-updates_of : (log : List LogEvent) → length (updates_of log) ≡ length (entered log)
@@ -37,9 +51,7 @@ slice_get-append : {X : Type 0} (xs ys : List X) (i : ℕ) (x : X) → slice_get
 slice_get-append xs ys i x h =
     let within : i < length xs = slice_get_within xs i x h in
     let longer : i < length (xs ++ ys) = omega (arith, within, length-append xs ys) in
-    let there : Some (get_or xs i x) ≡ Some x = sym (slice_get-get_or xs i x within) ∙ h in
-    let same : get_or xs i x ≡ x = cc in
-    slice_get_read (xs ++ ys) (length (xs ++ ys)) i x refl longer (sym (get_or-append xs ys x i within ∙ same))
+    slice_get_read (xs ++ ys) (length (xs ++ ys)) i x refl longer (sym (get_or-append xs ys x i within ∙ get_or_from_slice_get xs i x x h))
 
 number_grows : (log more : List LogEvent) (n : ℕ) (e : Entered) → IsUpdateNumber log n e → IsUpdateNumber (log ++ more) n e
 number_grows log more n e is = record {
@@ -55,10 +67,6 @@ before_grows log more n e is =
     let within : n - 1 ≤ length (updates_of log) = omega (arith, number_within log n e is) in
     ap (take (n - 1)) (updates_of-append log more) ∙ take-append-le (n - 1) (updates_of log) (updates_of more) within
 
-none_more : {X : Type 0} (xs : List X) → length xs ≡ 0 → xs ≡ []
-none_more [] h = refl
-none_more (x ∷ xs) h = absurd (omega arith)
-
 -- where a log has all its updates, what follows adds none
 abbrev pub StaysFull : Configuration → List LogEvent → List LogEvent → Type 0
 StaysFull c log more = length (updates_of log) ≡ c.updates → updates_of (log ++ more) ≡ updates_of log
@@ -66,7 +74,7 @@ StaysFull c log more = length (updates_of log) ≡ c.updates → updates_of (log
 -- a full log gains none where there are few
 pub full_stays : (c : Configuration) (log more : List LogEvent) → length (updates_of (log ++ more)) ≤ c.updates → StaysFull c log more
 full_stays c log more few full =
-    let none : updates_of more ≡ [] = none_more (updates_of more) (omega (arith, full, few, ap length (updates_of-append log more), length-append (updates_of log) (updates_of more))) in
+    let none : updates_of more ≡ [] = nil_from_length (updates_of more) (omega (arith, full, few, ap length (updates_of-append log more), length-append (updates_of log) (updates_of more))) in
     updates_of-append log more ∙ ap (λ us. updates_of log ++ us) none ∙ append-nil (updates_of log)
 
 range_grows : (c : Configuration) (log more : List LogEvent) (radius : ℕ) (query : List ℤ) (p : Position) (rows : List Row) (cells distances : ℕ)

@@ -1,5 +1,5 @@
 -- What a query is offered of one span.
-use Rattle.std.proofs.Common.{◌≡◌, ℕ, ℤ, List, [], ◌∷◌, true, false, refl, sym, ap, subst, arith, append-nil}
+use Rattle.std.proofs.Common.{◌≡◌, ℕ, ℤ, List, [], ◌∷◌, true, false, refl, sym, subst, arith, append-nil}
 use Rattle.mi_base.specs.Space.{MetricSpace}
 use Rattle.mi_key.specs.declared.entries.Entry.{Entry}
 use Rattle.mi_key.specs.declared.ranges.Interval.{Interval}

@@ -1,6 +1,6 @@
 -- How many leaves there are, and how many of them a query opens.
-use Rattle.std.proofs.Common.{◌≡◌, ℕ, suc, zero, ◌+◌, ◌*◌, ◌<◌, ◌≤◌, List, [], ◌∷◌, ◌++◌, map, length, take, get_or, Bool, true, false, IsTrue, cond, not, ◌&&◌, ◌||◌, nat_eq, nat_lt, refl, sym, ap, ◌∙◌, subst, arith, length-append, min}
-use Rattle.std.specs.Prelude.{All, slice_get, Some, count_by}
+use Rattle.std.proofs.Common.{◌≡◌, ℕ, suc, zero, ◌+◌, ◌*◌, ◌<◌, ◌≤◌, List, [], ◌∷◌, ◌++◌, length, take, get_or, Bool, true, false, cond, not, ◌&&◌, nat_eq, nat_lt, refl, sym, ap, ◌∙◌, subst, arith, length-append}
+use Rattle.std.specs.Prelude.{slice_get, Some, count_by}
 use Rattle.std.specs.List.{AllByRecursion, filter, flat_map, fold, range_with_len}
 use Rattle.std.proofs.lemmas.Bool.{false≢true}
 use Rattle.std.proofs.lemmas.Bool.Decides.{nat_tests}
@@ -11,18 +11,18 @@ use Rattle.std.proofs.lemmas.List.FromFn.{length-range_with_len}
 use Rattle.std.proofs.lemmas.Nat.{mul-le}
 use Rattle.mi_base.specs.declared.records.LogEvent.{LogEvent}
 use Rattle.mi_base.specs.declared.records.LogEvent.TheVariants.{Update as Made, Split}
-use Rattle.mi_base.specs.Configuration.{Configuration, IsWithinLimits, space_of}
-use Rattle.mi_base.specs.Prefixes.{all_below, has}
+use Rattle.mi_base.specs.Configuration.{Configuration, IsWithinLimits}
+use Rattle.mi_base.specs.Prefixes.{has}
 use Rattle.mi_base.proofs.LiveLemmas.{length_filter}
 use Rattle.mi_tree.specs.declared.outcomes.Leaf.{Leaf}
-use Rattle.mi_tree.specs.Cells.{Grid, IsGrid, children, same_cell, split_cell, leaves_after, first_leaves, leaves, AllMaySplit}
+use Rattle.mi_tree.specs.Cells.{children, same_cell, split_cell, leaves_after, first_leaves, leaves}
 use Rattle.mi_tree.specs.Counting.{held, leaf_with}
 use Rattle.mi_tree.specs.Legal.{LegalLog, cells_of}
 use Rattle.mi_tree.specs.Order.{before, in_order}
 use Rattle.std.proofs.lemmas.List.Elements.{recursion_from_All}
 use Rattle.mi_tree.proofs.FitLemmas.{Fits, leaves_fit}
-use Rattle.mi_tree.proofs.ListLemmas.{all_map, all_weaker}
-use Rattle.mi_tree.proofs.LeafLemmas.{same_cell_is, same_self}
+use Rattle.mi_tree.proofs.ListLemmas.{all_map}
+use Rattle.mi_tree.proofs.LeafLemmas.{same_cell_is}
 use Rattle.mi_tree.proofs.LegalLemmas.{grid, all_may}
 use Rattle.mi_tree.proofs.OrderLemmas.{InOrder, order_from_test, split_keeps_order, first_leaves_in_order}
 use Rattle.mi_board.proofs.BoardLemmas.{is_grid, log_short}

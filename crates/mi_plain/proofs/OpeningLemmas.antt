@@ -1,12 +1,12 @@
 -- What a query is offered of all leaves that pass.
-use Rattle.std.proofs.Common.{◌≡◌, ℕ, suc, zero, ℤ, ◌+◌, ◌<◌, ◌≤◌, List, [], ◌∷◌, ◌++◌, map, length, take, Bool, true, false, cond, IsTrue, Some, ◌&&◌, nat_le, refl, sym, ap, ◌∙◌, subst, arith, append_assoc, append-nil, zero-add}
-use Rattle.std.specs.Prelude.{slice_get, count_by}
+use Rattle.std.proofs.Common.{◌≡◌, ℕ, suc, zero, ℤ, ◌+◌, ◌≤◌, List, [], ◌∷◌, ◌++◌, map, length, take, Bool, true, false, cond, IsTrue, Some, nat_le, refl, sym, ap, ◌∙◌, subst, arith, append_assoc, append-nil, zero-add}
+use Rattle.std.specs.Prelude.{slice_get}
 use Rattle.std.specs.List.{AllByRecursion, filter, sum_by}
 use Rattle.std.proofs.lemmas.List.Sums.{sum_by-append, sum_by-cons}
 use Rattle.mi_base.specs.declared.records.LogEvent.{LogEvent}
 use Rattle.mi_base.specs.declared.records.Row.{Row}
 use Rattle.mi_base.specs.Configuration.{Configuration, IsWithinLimits, metric_space, space_of}
-use Rattle.mi_base.specs.History.{Object, hits, live, row_cmp, row_of, updates_of}
+use Rattle.mi_base.specs.History.{hits, live, row_cmp, row_of, updates_of}
 use Rattle.mi_base.specs.Permutations.{distances}
 use Rattle.mi_base.specs.Sorting.{SameElements, sorted}
 use Rattle.mi_base.specs.Space.{IsMetric, MetricSpace}
@@ -31,7 +31,7 @@ use Rattle.mi_plain.specs.Opening.{AreMeasured, offerings, spanned}
 use Rattle.mi_plain.specs.Plain.{IsKept, object_in}
 use Rattle.mi_plain.proofs.RangeLemmas.{compared_few, length_live, offered_hits}
 use Rattle.mi_plain.proofs.SpanLemmas.{Covered, all_covered, is_read, one_read}
-use Rattle.mi_plain.proofs.SummingLemmas.{all_two, sum_both, sum_none, sum_passed, sum_same, weigh, weigh_one, weigh_zero}
+use Rattle.mi_plain.proofs.SummingLemmas.{sum_both, sum_none, sum_passed, sum_same, weigh, weigh_one, weigh_zero}
 
 -- the entries whose keys a leaf's span has
 abbrev pub leaf_entries : List ℕ → ℕ → ℕ → List (ℕ × Entry) → Leaf → List (ℕ × Entry)

@@ -1,5 +1,5 @@
 -- The leaf that was found for a vector is the one that the vector belongs to.
-use Rattle.std.proofs.Common.{◌≡◌, ℕ, ℤ, ◌<◌, ◌≤◌, List, [], ◌∷◌, map, length, IsTrue, None, refl, sym, ap, ◌∙◌, subst, arith}
+use Rattle.std.proofs.Common.{◌≡◌, ℕ, ℤ, ◌≤◌, List, [], ◌∷◌, map, length, IsTrue, None, refl, sym, ap, ◌∙◌, subst}
 use Rattle.std.specs.List.{All, AllByRecursion, filter}
 use Rattle.std.proofs.lemmas.List.Elements.{All-filter, recursion_from_All}
 use Rattle.mi_base.specs.declared.records.LogEvent.{LogEvent}
@@ -7,12 +7,11 @@ use Rattle.arrayvec.specs.ArrayVec.{ArrayVec}
 use Rattle.mi_base.specs.Configuration.{Configuration, IsWithinLimits, metric_space, space_of}
 use Rattle.mi_base.specs.Permutations.{begins, distances}
 use Rattle.mi_board.proofs.BoardLemmas.{is_grid}
-use Rattle.mi_key.specs.declared.entries.Entry.{Entry}
 use Rattle.mi_key.specs.declared.keys.KeyParts.{KeyParts}
 use Rattle.mi_key.specs.Clusters.{cluster_of}
 use Rattle.mi_key.specs.Keys.{key_of, parts_of}
 use Rattle.mi_tree.specs.declared.outcomes.Leaf.{Leaf}
-use Rattle.mi_tree.specs.Cells.{Grid, leaf_of, leaves}
+use Rattle.mi_tree.specs.Cells.{leaf_of, leaves}
 use Rattle.mi_tree.specs.Counting.{beginning, held, leaf_with}
 use Rattle.mi_tree.specs.Legal.{LegalLog, cells_of}
 use Rattle.mi_tree.proofs.FitLemmas.{Fits, leaves_fit}

@@ -1,6 +1,6 @@
 -- What a range query keeps of all entries is the scan.
-use Rattle.std.proofs.Common.{◌≡◌, ℕ, ℤ, ◌+◌, ◌<◌, ◌≤◌, ◌^◌, List, [], ◌∷◌, ◌++◌, map, length, take, Bool, true, false, cond, refl, sym, ap, ◌∙◌, subst, arith, append-nil}
-use Rattle.std.specs.Prelude.{count_by, IsTrue}
+use Rattle.std.proofs.Common.{◌≡◌, ℕ, ℤ, ◌+◌, ◌≤◌, List, [], ◌∷◌, map, length, take, Bool, cond, refl, sym, ap, ◌∙◌, subst, arith, append-nil}
+use Rattle.std.specs.Prelude.{count_by}
 use Rattle.std.specs.List.{AllByRecursion, filter}
 use Rattle.std.proofs.lemmas.List.{take_all, length-map}
 use Rattle.std.proofs.lemmas.List.Sums.{length-filter, count_by-le-length, sum_by-cons}
@@ -34,13 +34,13 @@ abbrev pub offered_hits : Configuration → List ℤ → ℕ → List (ℕ × En
 offered_hits c query radius es = hits (metric_space c) query radius (map (λ o. o.object) (offerings es))
 
 -- the end of a log is a position, and its prefix is the log
-end_events : (log : List LogEvent) → length (updates_of log) + splits_of log ≡ length log
+pub end_events : (log : List LogEvent) → length (updates_of log) + splits_of log ≡ length log
 end_events log = omega (arith, few_updates log)
 
 pub at_end : (log : List LogEvent) → at_position log (end_of log) ≡ log
 at_end log = ap (λ n. take n log) (end_events log) ∙ take_all (length log) log (omega arith)
 
-end_is : (log : List LogEvent) → IsPosition log (end_of log)
+pub end_is : (log : List LogEvent) → IsPosition log (end_of log)
 end_is log = record { within = omega (arith, end_events log); updates = ap (λ (l : List LogEvent). length (updates_of l)) (at_end log) }
 
 -- what is compared of a map's entries is no more than there are

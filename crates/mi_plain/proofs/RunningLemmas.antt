@@ -2,6 +2,7 @@
 use Rattle.std.proofs.Common.{◌≡◌, ℕ, ◌+◌, ◌<◌, ◌≤◌, ◌==◌, ◌||◌, List, [], ◌∷◌, ◌++◌, map, length, Bool, true, false, refl, sym, ap, ◌∙◌, subst, arith, length-append, append-nil, append_assoc}
 use Rattle.std.specs.Prelude.{Option, Some, None, MatchOption}
 use Rattle.std.specs.List.{AllByRecursion, filter, list_any}
+use Rattle.std.proofs.Math.Bool.{or-false}
 use Rattle.mi_base.specs.declared.records.LogEvent.{LogEvent}
 use Rattle.mi_base.specs.declared.records.Op.{Op}
 use Rattle.mi_base.specs.declared.records.Op.TheVariants.{Insert, Delete}
@@ -13,22 +14,10 @@ use Rattle.mi_tree.specs.declared.outcomes.Outcome.{Outcome}
 use Rattle.mi_tree.specs.Legal.{EachRight, Legal, LegalLog, NeverFalls, Settled, accepted, accepted_in, cells_of, reach}
 use Rattle.mi_tree.specs.InTurn.{AloneInTurn, InTurn, updates_after}
 use Rattle.mi_tree.specs.Right.{Right}
-use Rattle.mi_plain.specs.Answering.{Answers, Grows, GrowsBySplits, Ran, TellsBetween}
+use Rattle.mi_tree.proofs.ListLemmas.{all_joined}
+use Rattle.mi_plain.specs.Answering.{Answers, Grows, GrowsBySplits, Ran}
 use Rattle.mi_plain.specs.Outcomes.{IsFinished, IsOutcomeOf, has_memory, is_memory}
-use Rattle.mi_plain.proofs.GrowingLemmas.{StaysFull, full_stays, length-updates_of, reach_grows, right_grows}
-
-pub grows_none : (log : List LogEvent) → Grows log log
-grows_none log = record { by = []; is = sym (append-nil log) }
-
-pub grows_on : (old mid new : List LogEvent) → Grows old mid → Grows mid new → Grows old new
-grows_on old mid new a b = record { by = a.by ++ b.by; is = b.is ∙ ap (λ l. l ++ b.by) a.is ∙ append_assoc old a.by b.by }
-
-pub grows_length : (old new : List LogEvent) → Grows old new → length old ≤ length new
-grows_length old new g = omega (arith, ap length g.is, length-append old g.by)
-
--- splits after splits
-pub splits_on : (old mid new : List LogEvent) → GrowsBySplits old mid → GrowsBySplits mid new → GrowsBySplits old new
-splits_on old mid new a b = record { grows = grows_on old mid new a.grows b.grows; enters = b.enters ∙ a.enters }
+use Rattle.mi_plain.proofs.GrowingLemmas.{StaysFull, full_stays, grows_length, grows_none, grows_on, length-updates_of, reach_grows, right_grows}
 
 stays_by_splits : (c : Configuration) (log new : List LogEvent) (s : GrowsBySplits log new) → StaysFull c log s.grows.by
 stays_by_splits c log new s full = ap updates_of (sym s.grows.is) ∙ ap (map (λ e. e.update)) s.enters
@@ -131,17 +120,13 @@ never_falls c old new log session op from (o ∷ os) (y ∷ ys) ran g le =
 never_falls c old new log session op from [] (y ∷ ys) ran g le = absurd ran
 never_falls c old new log session op from (o ∷ os) [] ran g le = absurd ran
 
-all_append : {X : Type 0} (P : X → Type 0) (xs ys : List X) → AllByRecursion P xs → AllByRecursion P ys → AllByRecursion P (xs ++ ys)
-all_append P [] ys hx hy = hy
-all_append P (x ∷ xs) ys hx hy = (hx.0, all_append P xs ys hx.1 hy)
-
 accepted_by : (session op : ℕ) (o : Op) (y : Reply) → AllByRecursion (λ e. e.session ≡ session) (accepted session op o y)
 accepted_by session op (Insert id v) (Stored n) = (refl, tt)
 accepted_by session op (Delete id) (Removed n) = (refl, tt)
 accepted_by session op o y = tt
 
 all_accepted_by : (session op : ℕ) (os : List Op) (ys : List Reply) → AllByRecursion (λ e. e.session ≡ session) (accepted_in session op os ys)
-all_accepted_by session op (o ∷ os) (y ∷ ys) = all_append _ (accepted session op o y) (accepted_in session (op + 1) os ys) (accepted_by session op o y) (all_accepted_by session (op + 1) os ys)
+all_accepted_by session op (o ∷ os) (y ∷ ys) = all_joined _ (accepted session op o y) (accepted_in session (op + 1) os ys) (accepted_by session op o y) (all_accepted_by session (op + 1) os ys)
 all_accepted_by session op [] ys = tt
 all_accepted_by session op (o ∷ os) [] = tt
 
@@ -168,10 +153,6 @@ ran_legal c os ys mid log legal ran s =
       forward = (never_falls c [] mid log 0 1 0 os ys ran s.grows (omega arith), tt);
     }
 
-or-false : (b : Bool) → b ≡ (b || false)
-or-false true = refl
-or-false false = refl
-
 -- what is left of an index and its replies is the outcome
 pub finished_outcome : (c : Configuration) (os : List Op) (ys : List Reply) (mid log : List LogEvent) (given_up : Bool) (o : Outcome) → IsFinished c log ys c.pages given_up o → LegalLog c log → Ran c [] 0 1 os ys mid
     → GrowsBySplits mid log → (given_up ≡ true → 1 ≤ length c.pivots) → (given_up ≡ false → Settled c log) → IsOutcomeOf c os o
@@ -185,7 +166,7 @@ finished_outcome c os ys mid log given_up o f legal ran s pivots settled =
       limit_is = f.limit_is;
       short = record {
         given_up = given_up;
-        short_is = f.short_is ∙ ap (λ b. b || given_up) (or-false (list_any is_memory ys) ∙ ap has_memory (sym f.replies_are));
+        short_is = f.short_is ∙ ap (λ b. b || given_up) (sym (or-false (list_any is_memory ys)) ∙ ap has_memory (sym f.replies_are));
         pivots = pivots;
         settled = λ ended. subst (Settled c) (sym f.log_is) (settled ended);
       };

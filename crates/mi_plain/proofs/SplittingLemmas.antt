@@ -1,5 +1,5 @@
 -- The list after a split of a leaf.
-use Rattle.std.proofs.Common.{◌≡◌, ℕ, ℤ, ◌+◌, ◌<◌, ◌≤◌, ◌^◌, ◌++◌, List, [], ◌∷◌, map, length, take, Bool, true, false, cond, ◌&&◌, nat_le, refl, sym, ap, ◌∙◌, subst, arith}
+use Rattle.std.proofs.Common.{◌≡◌, ℕ, ℤ, ◌+◌, ◌<◌, ◌≤◌, ◌^◌, ◌++◌, List, [], ◌∷◌, map, length, take, Bool, true, false, cond, ◌&&◌, nat_le, refl, sym, ap, ◌∙◌, subst, arith, append-nil}
 use Rattle.std.specs.List.{AllByRecursion}
 use Rattle.std.proofs.Math.ListN.{length-take}
 use Rattle.std.proofs.lemmas.Bool.Decides.{nat_tests}
@@ -7,9 +7,10 @@ use Rattle.std.proofs.lemmas.List.{length-map}
 use Rattle.mi_base.specs.declared.records.LogEvent.{LogEvent}
 use Rattle.mi_base.specs.declared.records.LogEvent.TheVariants.{Split}
 use Rattle.mi_base.specs.Configuration.{Configuration, IsWithinLimits, space_of}
-use Rattle.mi_base.specs.History.{Object, live, updates_of}
+use Rattle.mi_base.specs.History.{Object, entered, live, updates_of}
 use Rattle.mi_base.specs.Permutations.{begins, permutation_of}
 use Rattle.mi_base.specs.Sorting.{SameElements}
+use Rattle.mi_base.proofs.HistoryLemmas.{entered-append}
 use Rattle.mi_board.specs.declared.actors.ActorState.{ActorState}
 use Rattle.mi_board.specs.Actors.{change, released}
 use Rattle.mi_board.specs.Boards.{BoardState, with_actor, with_split}
@@ -21,6 +22,7 @@ use Rattle.mi_key.specs.Clusters.{cluster_of}
 use Rattle.mi_key.specs.Keys.{FitKey, key_of, parts_of}
 use Rattle.mi_key.proofs.ClusterLemmas.{cluster-small}
 use Rattle.mi_key.proofs.KeyLemmas.{made_of, parts_of-key_of}
+use Rattle.mi_plain.specs.Answering.{GrowsBySplits}
 use Rattle.mi_plain.specs.Plain.{IsKept, IsPlain, child_key, grid_for, leaf_key, moves, object_in, rekeyed}
 use Rattle.mi_plain.proofs.KeyLemmas.{all_below-permutation, distance_fits, id_fits}
 use Rattle.mi_tree.specs.Cells.{IsGrid, depth, leaf_of}
@@ -70,6 +72,13 @@ module _ (c : Configuration) (limits : IsWithinLimits c) where
       let low : id < 2 ^ 40 = subst (λ (n : ℕ). n < 2 ^ 40) k.named (id_fits e.key) in
       let near : (grid_for c).distance e.vector < 2 ^ 27 = subst (λ (n : ℕ). n < 2 ^ 27) k.distance_is (distance_fits e.key) in
       ap parts_of k.key_is ∙ parts_of-key_of (leaf_parts c log id e.vector e.birth) (fit_leaf log id e.vector e.birth low near k.born)
+
+  -- there are pivots where a leaf is to be split
+  pub some_pivots : (log : List LogEvent) (p : List ℕ) → MayFollow c log (Split p) → 1 ≤ length c.pivots
+  some_pivots log p may =
+      let few = (wanted c log p may).1.0 in
+      let deep = config_grid.levels in
+      omega arith
 
   module _ (log : List LogEvent) (legal : LegalLog c log) (p : List ℕ) (may : MayFollow c log (Split p)) where
     abbrev after : List LogEvent
@@ -206,9 +215,6 @@ module _ (b : BoardState) (pivots : List (List ℤ)) (levels cell : ℕ) (entrie
         kept = subst (λ (n : ℕ). AllByRecursion (λ (e : ℕ × Entry). IsKept b.settings (b.log ++ Split p ∷ []) e.0 e.1) (map (λ (e : ℕ × Entry). (e.0, rekeyed p n e.1)) entries)) (sym is.levels_are) kept;
       }
 
-  -- there are pivots where a leaf is to be split
-  pub some_pivots : (p : List ℕ) → MayFollow b.settings b.log (Split p) → 1 ≤ length b.settings.pivots
-  some_pivots p may =
-      let few = (wanted b.settings b.log p may).1.0 in
-      let deep = (depth_is (length b.settings.pivots) b.settings.levels is.limits.levels).1 in
-      omega arith
+-- one split more
+pub one_split : (log : List LogEvent) (p : List ℕ) → GrowsBySplits log (log ++ Split p ∷ [])
+one_split log p = record { grows = record { by = Split p ∷ []; is = refl }; enters = entered-append log (Split p ∷ []) ∙ append-nil (entered log) }

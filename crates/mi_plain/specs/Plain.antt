@@ -30,7 +30,7 @@ leaf_key c log id vector birth = key_of (record {
   birth = birth;
 })
 
--- an entry has its vector's distances, and stands under the key of its leaf
+-- an entry has its vector's distances, and stands under the key of its leaf, which tells its identifier and its key distance
 pub record IsKept (c : Configuration) (log : List LogEvent) (id : ℕ) (e : Entry) : Type 0 where
   pub fits : IsTrue ((metric_space c).fits e.vector)
   pub dists_are : e.dists.items ≡ distances (space_of c) e.vector

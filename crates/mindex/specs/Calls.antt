@@ -81,7 +81,8 @@ pub record IsRefusal (texts : Texts) (status : ℕ) (text : List ℕ) : Type 0 w
   pub status_is : status ≡ refusal_status refusal
   pub text_is : text ≡ refusal_line refusal
 
--- a file could not be read, and each before it is good
+-- A file could not be read: the count of faults of the files rose, and each file before the one that is named is good. The count is
+-- one for all files, so that the name is pinned no further: where a file is good, its own failed read may be told of a later one.
 pub record IsUnread (texts : Texts) (reads reads' : ℕ) (status : ℕ) (text : List ℕ) : Type 0 where
   pub file : ℕ
   pub good : GoodBefore file texts

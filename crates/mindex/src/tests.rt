@@ -136,6 +136,25 @@ static PIVOT_CASES: [(&[u8], &str, &str); 3] = [
     ),
 ];
 
+/// Queries under pivots: a leaf that passes and one that doesn't, an object that the filter leaves out, and leaves that were split.
+static QUERY_CASES: [(&[u8], &str, &str); 3] = [
+    (
+        b"metric,l1\ndims,1\npivot,0\npivot,10\nlevels,2\ncell,4\nupdates,64\npages,40\n",
+        "insert,1,18\nrange,3,2\nrange,2,2\n",
+        "session,0\nstored,1\nrange,1,0,0,1,2\nrange,1,0,0,0,2\nhistory,1,0\ninsert,0,1,1,18\ncells,2\n0,0\n1,1\nentries,1\npages,1,40\n",
+    ),
+    (
+        b"metric,l1\ndims,1\npivot,0\npivot,10\nlevels,2\ncell,4\nupdates,64\npages,40\n",
+        "insert,1,1\ninsert,2,2\ninsert,3,3\ninsert,4,4\ninsert,9,9\nrange,1,2\n",
+        "session,0\nstored,1\nstored,2\nstored,3\nstored,4\nstored,5\nrange,5,0,3,1,5\n0,2\n1,1\n1,3\nhistory,5,0\ninsert,0,1,1,1\ninsert,0,2,2,2\ninsert,0,3,3,3\ninsert,0,4,4,4\ninsert,0,5,9,9\ncells,2\n0,4\n1,1\nentries,5\npages,1,40\n",
+    ),
+    (
+        b"metric,l1\ndims,1\npivot,0\npivot,10\nlevels,2\ncell,2\nupdates,64\npages,40\n",
+        "insert,1,1\ninsert,2,2\ninsert,3,3\nrange,5,2\ndelete,2\nrange,1,2\n",
+        "session,0\nstored,1\nstored,2\nstored,3\nrange,3,1,3,1,5\n0,2\n1,1\n1,3\nremoved,4\nrange,4,1,2,1,4\n1,1\n1,3\nhistory,4,1\ninsert,0,1,1,1\ninsert,0,2,2,2\ninsert,0,3,3,3\nsplit,0\ndelete,0,5,2\ncells,2\n0.1,2\n1,0\nentries,2\npages,1,40\n",
+    ),
+];
+
 /// Each script gives its transcript, with status 0.
 fn check_transcripts(
     rt: &impl Abort,
@@ -166,6 +185,52 @@ fn each_metric_has_its_transcript(rt: HostRuntime) -> Result<(), Fail> {
 #[test]
 fn leaves_are_split_by_the_splitter_and_by_inserts(rt: HostRuntime) -> Result<(), Fail> {
     check_transcripts(&rt, rt.alloc(), &PIVOT_CASES)
+}
+
+#[test]
+fn queries_under_pivots_are_answered_at_their_cost(rt: HostRuntime) -> Result<(), Fail> {
+    check_transcripts(&rt, rt.alloc(), &QUERY_CASES)
+}
+
+/// So many coordinates after commas.
+fn corner(alloc: Global, coordinate: &str) -> Result<String, Fail> {
+    let mut text = String::new(alloc);
+    for _ in 0..64 {
+        text.push_str(",")?;
+        text.push_str(coordinate)?;
+    }
+    Ok(text)
+}
+
+/// These texts one after another.
+fn joined(alloc: Global, parts: &[&str]) -> Result<String, Fail> {
+    let mut text = String::new(alloc);
+    for part in parts {
+        text.push_str(part)?;
+    }
+    Ok(text)
+}
+
+#[test]
+fn the_greatest_distance_and_identifier_are_answered(rt: HostRuntime) -> Result<(), Fail> {
+    let alloc = rt.alloc();
+    let far = corner(alloc, "1000000")?;
+    let near = corner(alloc, "-1000000")?;
+    let sizes = "\nlevels,1\ncell,4\nupdates,8\npages,4\n";
+    let settings = joined(alloc, &["metric,l1\ndims,64\npivot", far.as_str(), sizes])?;
+    let id = "1099511627775";
+    let script = joined(
+        alloc,
+        &["insert,", id, near.as_str(), "\nrange,0", near.as_str(), "\n"],
+    )?;
+    let replies = "session,0\nstored,1\nrange,1,0,1,1,2\n0,1099511627775\n";
+    let end = "\ncells,1\n0,1\nentries,1\npages,1,4\n";
+    let text = joined(
+        alloc,
+        &[replies, "history,1,0\ninsert,0,1,", id, near.as_str(), end],
+    )?;
+    let cases = [(settings.as_bytes(), script.as_str(), text.as_str())];
+    check_transcripts(&rt, alloc, &cases)
 }
 
 #[test]
@@ -279,7 +344,7 @@ static FAULTS: [(&[u8], &[u8], &[u8], u8, &[u8]); 67] = [
         2,
         b"fault,0,35,limit\n",
     ),
-    (PIVOTED, b"", b"range,1,0,0\n", 3, b"fault,2,1,unbuilt\n"),
+    (PIVOTED, b"", b"range,1,0\n", 3, b"fault,2,1,fields\n"),
     (
         PIVOTED,
         b"",

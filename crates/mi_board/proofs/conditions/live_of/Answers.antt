@@ -1,9 +1,7 @@
-use Rattle.std.proofs.Common.{◌≡◌, ◌∙◌, sym, ap, refl, map, List, [], ◌∷◌, ◌++◌, take, ◌+◌}
+use Rattle.std.proofs.Common.{◌≡◌, ◌∙◌, sym, ap, map, List, [], ◌∷◌, ◌++◌, take, ◌+◌}
 use Rattle.std.proofs.lemmas.List.{take_more}
-use Rattle.std.specs.Prelude.{slice_index_or}
 use Rattle.mi_base.specs.declared.records.LogEvent.{LogEvent}
 use Rattle.mi_base.specs.declared.records.Update.{Update}
-use Rattle.mi_base.specs.declared.records.LogEvent.TheVariants.{Update as Made, Split}
 use Rattle.mi_base.specs.History.{Object, live, live_after, updates_of}
 use Rattle.mi_base.proofs.HistoryLemmas.{updates_of-append, live-append}
 use Rattle.mi_board.specs.declared.conditions.Live.{Live}

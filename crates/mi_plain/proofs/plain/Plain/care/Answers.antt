@@ -5,8 +5,7 @@ use Rattle.mi_board.specs.Boards.{BoardState, with_actor, with_split}
 use Rattle.mi_plain.specs.Answering.{GrowsBySplits}
 use Rattle.mi_plain.specs.Plain.{IsPlain, NoClaims, work_left}
 use Rattle.mi_plain.proofs.CareLemmas.{found_wanted, settled, less_work}
-use Rattle.mi_plain.proofs.SplitGrowthLemmas.{one_split}
-use Rattle.mi_plain.proofs.SplittingLemmas.{plain_actor, plain_beside}
+use Rattle.mi_plain.proofs.SplittingLemmas.{one_split, plain_actor, plain_beside}
 use Rattle.mi_tree.specs.Legal.{LegalLog, MayFollow, Settled, cells_of}
 use Rattle.mi_plain.proofs.plain.Plain.care.Goals as goal
 

@@ -1,4 +1,4 @@
-use Rattle.std.proofs.Common.{◌≡◌, ◌∙◌, ◌++◌, ◌∷◌, [], sym, ap, subst, List, Some, take}
+use Rattle.std.proofs.Common.{◌≡◌, ◌∙◌, ◌++◌, ◌∷◌, [], sym, ap, subst, List, Some}
 use Rattle.std.specs.Prelude.{slice_get}
 use Rattle.mi_board.specs.Boards.{BoardState}
 use Rattle.mi_tree.specs.declared.outcomes.Leaf.{Leaf}

@@ -1,13 +1,12 @@
-use Rattle.std.proofs.Common.{◌≡◌, ℕ, ℤ, ◌∙◌, ◌+◌, sym, ap, subst, arith, true, List, [], ◌∷◌, ◌++◌, length, IsTrue}
+use Rattle.std.proofs.Common.{◌≡◌, ℕ, ℤ, ◌∙◌, sym, ap, subst, arith, true, List, [], ◌∷◌, ◌++◌, IsTrue}
 use Rattle.std.specs.List.{AllByRecursion}
 use Rattle.mi_base.specs.declared.records.LogEvent.{LogEvent}
 use Rattle.mi_base.specs.declared.records.LogEvent.TheVariants.{Update as Made}
 use Rattle.mi_base.specs.declared.records.Update.TheVariants.{Insert}
 use Rattle.mi_base.specs.Configuration.{Configuration, metric_space, space_of}
-use Rattle.mi_base.specs.History.{updates_of}
 use Rattle.mi_base.specs.Permutations.{distances, permutation_of}
 use Rattle.mi_base.specs.Space.{MetricSpace}
-use Rattle.mi_board.specs.Actors.{actor_at, reserving}
+use Rattle.mi_board.specs.Actors.{reserving}
 use Rattle.mi_board.specs.Boards.{BoardState}
 use Rattle.mi_tree.specs.Counting.{beginning}
 use Rattle.mi_tree.specs.Legal.{cells_of}

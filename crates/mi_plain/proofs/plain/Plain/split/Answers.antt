@@ -1,4 +1,4 @@
-use Rattle.std.proofs.Common.{rules, ◌≡◌, ◌≤◌, ◌∙◌, ℕ, List, length, map, sym, subst, ap}
+use Rattle.std.proofs.Common.{rules, ◌≡◌, ◌∙◌, ℕ, List, map, sym, subst, ap}
 use Rattle.std.proofs.lemmas.Map.Made.{map_same_pairs}
 use Rattle.mi_base.specs.declared.records.LogEvent.TheVariants.{Split}
 use Rattle.mi_board.specs.Actors.{released}
@@ -16,11 +16,7 @@ invariant_of-self c =
     subst P (sym c.release_leaf.ensures) (plain_actor i.board i.pivots i.levels i.cell i.entries.entries c.self.invariant released c.args.actor)
 
 pub returns-in_default-clause-pivots : goal.returns-in_default-clause-pivots
-returns-in_default-clause-pivots c =
-    let i = c.self.inside in
-    let p = c.args.leaf.now.prefix in
-    let may : MayFollow i.board.settings i.board.log (Split p) = subst (λ (x : BoardState). MayFollow x.settings x.log (Split p)) (sym c.self.view_is) c.requires.wanted in
-    subst (λ (x : BoardState). 1 ≤ length x.settings.pivots) c.self.view_is (some_pivots i.board i.pivots i.levels i.cell i.entries.entries c.self.invariant p may)
+returns-in_default-clause-pivots c = some_pivots c.args.self.now.settings c.end.ensures.limits c.args.self.now.log c.args.leaf.now.prefix c.requires.wanted
 
 pub invariant_of-self-in_default-publish : goal.invariant_of-self-in_default-publish
 invariant_of-self-in_default-publish c =
@@ -31,11 +27,7 @@ invariant_of-self-in_default-publish c =
     (plain_actor i.board i.pivots i.levels i.cell i.entries.entries c.self.invariant released c.args.actor)
 
 pub returns-in_default-publish-clause-pivots : goal.returns-in_default-publish-clause-pivots
-returns-in_default-publish-clause-pivots c =
-    let i = c.self.inside in
-    let p = c.args.leaf.now.prefix in
-    let may : MayFollow i.board.settings i.board.log (Split p) = subst (λ (x : BoardState). MayFollow x.settings x.log (Split p)) (sym c.self.view_is) c.requires.wanted in
-    subst (λ (x : BoardState). 1 ≤ length x.settings.pivots) c.self.view_is (some_pivots i.board i.pivots i.levels i.cell i.entries.entries c.self.invariant p may)
+returns-in_default-publish-clause-pivots c = some_pivots c.args.self.now.settings c.end.ensures.limits c.args.self.now.log c.args.leaf.now.prefix c.requires.wanted
 
 pub invariant_of-self-2 : goal.invariant_of-self-2
 invariant_of-self-2 c =
@@ -52,8 +44,4 @@ invariant_of-self-2 c =
     subst P (sym now) (subst Q (sym entries_are) (plain_split i.board i.pivots i.levels i.cell i.entries.entries c.self.invariant c.args.actor p legal may))
 
 pub returns-clause-pivots : goal.returns-clause-pivots
-returns-clause-pivots c =
-    let i = c.self.inside in
-    let p = c.args.leaf.now.prefix in
-    let may : MayFollow i.board.settings i.board.log (Split p) = subst (λ (x : BoardState). MayFollow x.settings x.log (Split p)) (sym c.self.view_is) c.requires.wanted in
-    subst (λ (x : BoardState). 1 ≤ length x.settings.pivots) c.self.view_is (some_pivots i.board i.pivots i.levels i.cell i.entries.entries c.self.invariant p may)
+returns-clause-pivots c = some_pivots c.args.self.now.settings c.end.ensures.limits c.args.self.now.log c.args.leaf.now.prefix c.requires.wanted
