@@ -1,5 +1,5 @@
 -- What a query is offered of one span.
-use Rattle.std.proofs.Common.{◌≡◌, ℕ, ℤ, List, [], ◌∷◌, true, false, refl, sym, ap, subst, arith, append-nil}
+use Rattle.std.proofs.Common.{◌≡◌, ℕ, ℤ, List, [], ◌∷◌, true, false, refl, sym, subst, arith, append-nil}
 use Rattle.mi_base.specs.Space.{MetricSpace}
 use Rattle.mi_key.specs.declared.entries.Entry.{Entry}
 use Rattle.mi_key.specs.declared.ranges.Interval.{Interval}
@@ -10,7 +10,7 @@ use Rattle.mi_range.proofs.TakeLemmas.{takes_more}
 use Rattle.mi_plain.specs.Opening.{offerings, spanned}
 
 -- room for more rows takes nothing
-pub takes_room : (m : MetricSpace) (query : List ℤ) (w v : Ranging) (n : ℕ) → v ≡ record { dists = w.dists; radius = w.radius; rows = w.rows; distances = w.distances; spare = v.spare } → Takes m query w n [] v n
+takes_room : (m : MetricSpace) (query : List ℤ) (w v : Ranging) (n : ℕ) → v ≡ record { dists = w.dists; radius = w.radius; rows = w.rows; distances = w.distances; spare = v.spare } → Takes m query w n [] v n
 takes_room m query w v n same =
     let made : Ranging = record { dists = w.dists; radius = w.radius; rows = w.rows; distances = w.distances; spare = v.spare } in
     let here : Takes m query w n [] made n =

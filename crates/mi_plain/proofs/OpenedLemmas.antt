@@ -12,7 +12,7 @@ use Rattle.std.proofs.lemmas.Nat.{mul-le}
 use Rattle.mi_base.specs.declared.records.LogEvent.{LogEvent}
 use Rattle.mi_base.specs.declared.records.LogEvent.TheVariants.{Update as Made, Split}
 use Rattle.mi_base.specs.Configuration.{Configuration, IsWithinLimits}
-use Rattle.mi_base.specs.Prefixes.{all_below, has}
+use Rattle.mi_base.specs.Prefixes.{has}
 use Rattle.mi_base.proofs.LiveLemmas.{length_filter}
 use Rattle.mi_tree.specs.declared.outcomes.Leaf.{Leaf}
 use Rattle.mi_tree.specs.Cells.{children, same_cell, split_cell, leaves_after, first_leaves, leaves}
@@ -21,7 +21,7 @@ use Rattle.mi_tree.specs.Legal.{LegalLog, cells_of}
 use Rattle.mi_tree.specs.Order.{before, in_order}
 use Rattle.std.proofs.lemmas.List.Elements.{recursion_from_All}
 use Rattle.mi_tree.proofs.FitLemmas.{Fits, leaves_fit}
-use Rattle.mi_tree.proofs.ListLemmas.{all_map, all_weaker}
+use Rattle.mi_tree.proofs.ListLemmas.{all_map}
 use Rattle.mi_tree.proofs.LeafLemmas.{same_cell_is}
 use Rattle.mi_tree.proofs.LegalLemmas.{grid, all_may}
 use Rattle.mi_tree.proofs.OrderLemmas.{InOrder, order_from_test, split_keeps_order, first_leaves_in_order}

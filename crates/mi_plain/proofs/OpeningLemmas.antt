@@ -1,12 +1,12 @@
 -- What a query is offered of all leaves that pass.
-use Rattle.std.proofs.Common.{◌≡◌, ℕ, suc, zero, ℤ, ◌+◌, ◌<◌, ◌≤◌, List, [], ◌∷◌, ◌++◌, map, length, take, Bool, true, false, cond, IsTrue, Some, ◌&&◌, nat_le, refl, sym, ap, ◌∙◌, subst, arith, append_assoc, append-nil, zero-add}
-use Rattle.std.specs.Prelude.{slice_get, count_by}
+use Rattle.std.proofs.Common.{◌≡◌, ℕ, suc, zero, ℤ, ◌+◌, ◌≤◌, List, [], ◌∷◌, ◌++◌, map, length, take, Bool, true, false, cond, IsTrue, Some, nat_le, refl, sym, ap, ◌∙◌, subst, arith, append_assoc, append-nil, zero-add}
+use Rattle.std.specs.Prelude.{slice_get}
 use Rattle.std.specs.List.{AllByRecursion, filter, sum_by}
 use Rattle.std.proofs.lemmas.List.Sums.{sum_by-append, sum_by-cons}
 use Rattle.mi_base.specs.declared.records.LogEvent.{LogEvent}
 use Rattle.mi_base.specs.declared.records.Row.{Row}
 use Rattle.mi_base.specs.Configuration.{Configuration, IsWithinLimits, metric_space, space_of}
-use Rattle.mi_base.specs.History.{Object, hits, live, row_cmp, row_of, updates_of}
+use Rattle.mi_base.specs.History.{hits, live, row_cmp, row_of, updates_of}
 use Rattle.mi_base.specs.Permutations.{distances}
 use Rattle.mi_base.specs.Sorting.{SameElements, sorted}
 use Rattle.mi_base.specs.Space.{IsMetric, MetricSpace}
@@ -31,7 +31,7 @@ use Rattle.mi_plain.specs.Opening.{AreMeasured, offerings, spanned}
 use Rattle.mi_plain.specs.Plain.{IsKept, object_in}
 use Rattle.mi_plain.proofs.RangeLemmas.{compared_few, length_live, offered_hits}
 use Rattle.mi_plain.proofs.SpanLemmas.{Covered, all_covered, is_read, one_read}
-use Rattle.mi_plain.proofs.SummingLemmas.{all_two, sum_both, sum_none, sum_passed, sum_same, weigh, weigh_one, weigh_zero}
+use Rattle.mi_plain.proofs.SummingLemmas.{sum_both, sum_none, sum_passed, sum_same, weigh, weigh_one, weigh_zero}
 
 -- the entries whose keys a leaf's span has
 abbrev pub leaf_entries : List ℕ → ℕ → ℕ → List (ℕ × Entry) → Leaf → List (ℕ × Entry)
@@ -43,7 +43,7 @@ opened_entries dq radius levels es [] = []
 opened_entries dq radius levels es (l ∷ ls) = cond (passes dq radius l) (leaf_entries dq radius levels es l) [] ++ opened_entries dq radius levels es ls
 
 -- one leaf more
-pub opened_more : (dq : List ℕ) (radius levels : ℕ) (es : List (ℕ × Entry)) (ls : List Leaf) (i : ℕ) (l : Leaf) → slice_get ls i ≡ Some l → (b : Bool) → passes dq radius l ≡ b
+opened_more : (dq : List ℕ) (radius levels : ℕ) (es : List (ℕ × Entry)) (ls : List Leaf) (i : ℕ) (l : Leaf) → slice_get ls i ≡ Some l → (b : Bool) → passes dq radius l ≡ b
     → opened_entries dq radius levels es (take (i + 1) ls) ≡ opened_entries dq radius levels es (take i ls) ++ cond b (leaf_entries dq radius levels es l) []
 opened_more dq radius levels es [] i l at b is = cc
 opened_more dq radius levels es (m ∷ ls) zero l at b is =
@@ -143,7 +143,7 @@ module _ (c : Configuration) (limits : IsWithinLimits c) (log : List LogEvent) (
       ∙ sum_same (λ (e : ℕ × Entry). weigh (is_read dq radius c.levels e) (f e) (cells_of c log)) f es (all_weighed f es kept (all_covered c log es same) none)
 
   -- as many are compared as of all entries
-  pub same_compared : compared (distances (space_of c) query) radius (offerings (opened_entries (distances (space_of c) query) radius c.levels es (cells_of c log)))
+  same_compared : compared (distances (space_of c) query) radius (offerings (opened_entries (distances (space_of c) query) radius c.levels es (cells_of c log)))
       ≡ compared (distances (space_of c) query) radius (offerings es)
   same_compared =
       let dq = distances (space_of c) query in
@@ -158,7 +158,7 @@ module _ (c : Configuration) (limits : IsWithinLimits c) (log : List LogEvent) (
       (record { pivots = c.pivots; pivots_fit = limits.pivots; of_query = refl; of_object = is.dists_are }) t
 
   -- and the rows are the same, in some order
-  pub same_rows : IsMetric (metric_space c) → IsTrue ((metric_space c).fits query)
+  same_rows : IsMetric (metric_space c) → IsTrue ((metric_space c).fits query)
       → sorted row_cmp (offered_hits c query radius (opened_entries (distances (space_of c) query) radius c.levels es (cells_of c log))) ≡ sorted row_cmp (offered_hits c query radius es)
   same_rows metric fits =
       let m = metric_space c in

@@ -64,7 +64,7 @@ module _ (c : Configuration) (log : List LogEvent) where
       ap (λ (o : Object). o ∷ map (λ (x : Offering). x.object) (offerings es)) one ∙ ap (λ os. object_in e ∷ os) (objects_offered es h.1)
 
   -- the rows that were kept of all entries, in their order, are the scan
-  pub rows_scanned : (es : List (ℕ × Entry)) → AllByRecursion (λ e. IsKept c log e.0 e.1) es → SameElements (map object_in es) (live (updates_of log))
+  rows_scanned : (es : List (ℕ × Entry)) → AllByRecursion (λ e. IsKept c log e.0 e.1) es → SameElements (map object_in es) (live (updates_of log))
       → (query : List ℤ) (radius : ℕ) → sorted row_cmp (offered_hits c query radius es) ≡ range_scan (metric_space c) (updates_of log) query radius
   rows_scanned es kept same query radius =
       ap (λ os. sorted row_cmp (hits (metric_space c) query radius os)) (objects_offered es kept) ∙ sorted-hits (metric_space c) (updates_of log) query radius (map object_in es) same
@@ -85,7 +85,7 @@ module _ (c : Configuration) (log : List LogEvent) where
   compared_objects dq radius es kept = count_kept dq radius es kept ∙ sym (length-filter (λ (o : Object). lets_through radius dq (distances (space_of c) o.vector)) (map object_in es))
 
   -- what is compared of all entries is what the query is compared with
-  pub compared_candidates : (limits : IsWithinLimits c) → AllMaySplit (grid c) log → (es : List (ℕ × Entry)) → AllByRecursion (λ e. IsKept c log e.0 e.1) es → SameElements (map object_in es) (live (updates_of log))
+  compared_candidates : (limits : IsWithinLimits c) → AllMaySplit (grid c) log → (es : List (ℕ × Entry)) → AllByRecursion (λ e. IsKept c log e.0 e.1) es → SameElements (map object_in es) (live (updates_of log))
       → (query : List ℤ) (radius : ℕ) → compared (distances (space_of c) query) radius (offerings es) ≡ length (candidates (space_of c) c.levels log query radius)
   compared_candidates limits may es kept same query radius =
       let T : Object → Bool = λ o. lets_through radius (distances (space_of c) query) (distances (space_of c) o.vector) in

@@ -1,6 +1,6 @@
 -- Each entry that the filter lets through is in the span of one leaf that passes.
-use Rattle.std.proofs.Common.{◌≡◌, ℕ, suc, zero, ℤ, ◌+◌, ◌<◌, ◌≤◌, ◌^◌, List, [], ◌∷◌, ◌++◌, map, length, take, Bool, true, false, cond, IsTrue, ◌&&◌, nat_eq, refl, sym, ap, ◌∙◌, subst, arith, min}
-use Rattle.std.specs.List.{AllByRecursion, filter, fold, list_all, sum_by}
+use Rattle.std.proofs.Common.{◌≡◌, ℕ, suc, zero, ℤ, ◌+◌, ◌<◌, ◌≤◌, ◌^◌, List, [], ◌∷◌, map, length, take, Bool, true, false, cond, ◌&&◌, nat_eq, refl, sym, ap, ◌∙◌, subst, arith, min}
+use Rattle.std.specs.List.{AllByRecursion, filter, fold}
 use Rattle.std.proofs.Math.ListN.{length-take}
 use Rattle.std.proofs.lemmas.Bool.{and_from, and_parts, eqb-true, false≢true, false_from_ne_true}
 use Rattle.std.proofs.lemmas.List.{length-map}
@@ -9,8 +9,7 @@ use Rattle.mi_base.specs.declared.records.LogEvent.{LogEvent}
 use Rattle.mi_base.specs.declared.records.LogEvent.TheVariants.{Update as Made, Split}
 use Rattle.mi_base.specs.Configuration.{Configuration, IsDepth, IsWithinLimits, metric_space, space_of}
 use Rattle.mi_base.specs.History.{Object, live, updates_of}
-use Rattle.mi_base.specs.Permutations.{begins, distances, key_distance, permutation_of}
-use Rattle.mi_base.specs.Prefixes.{all_below}
+use Rattle.mi_base.specs.Permutations.{begins, distances, key_distance}
 use Rattle.mi_base.specs.Sorting.{SameElements}
 use Rattle.mi_base.proofs.HistoryLemmas.{same_all}
 use Rattle.mi_base.proofs.SortingLemmas.{filter_keeps, same_filter}
@@ -18,14 +17,13 @@ use Rattle.mi_board.proofs.BoardLemmas.{is_grid}
 use Rattle.mi_key.specs.declared.entries.Entry.{Entry}
 use Rattle.mi_key.specs.declared.keys.KeyParts.{KeyParts}
 use Rattle.mi_key.specs.Clusters.{cluster_of}
-use Rattle.mi_key.specs.Keys.{FitKey, key_of, parts_of}
-use Rattle.mi_key.specs.Ranges.{stands_between}
+use Rattle.mi_key.specs.Keys.{FitKey, parts_of}
 use Rattle.mi_key.proofs.ClusterLemmas.{cluster-exact, cluster-small}
 use Rattle.mi_key.proofs.KeyLemmas.{parts_of-key_of}
-use Rattle.mi_rules.specs.Spans.{is_in_span, least_distance, greatest_distance}
+use Rattle.mi_rules.specs.Spans.{is_in_span}
 use Rattle.mi_rules.proofs.RuleLemmas.{filter_passes, filter_spans}
 use Rattle.mi_tree.specs.declared.outcomes.Leaf.{Leaf}
-use Rattle.mi_tree.specs.Cells.{Grid, depth, depth_after, leaf_of, leaves}
+use Rattle.mi_tree.specs.Cells.{depth, depth_after, leaf_of, leaves}
 use Rattle.mi_tree.specs.Counting.{belongs, held, in_hull, leaf_with}
 use Rattle.mi_tree.specs.Legal.{LegalLog, cells_of}
 use Rattle.mi_tree.specs.Passing.{lets_through, passes}
@@ -33,7 +31,7 @@ use Rattle.mi_tree.proofs.CoverLemmas.{live_covered}
 use Rattle.mi_tree.proofs.FitLemmas.{Fits, leaves_fit}
 use Rattle.mi_tree.proofs.LeafLemmas.{begins_take, one_leaf}
 use Rattle.mi_tree.proofs.LegalLemmas.{all_may}
-use Rattle.mi_tree.proofs.ListLemmas.{all_map, all_weaker, filter_map, filter_same}
+use Rattle.mi_tree.proofs.ListLemmas.{all_weaker, filter_map, filter_same}
 use Rattle.mi_plain.specs.Plain.{IsKept, grid_for, object_in}
 use Rattle.mi_plain.proofs.KeyLemmas.{distance_fits, id_fits}
 use Rattle.mi_plain.proofs.SummingLemmas.{all_for, all_passed, all_two, one_passes}
