@@ -29,7 +29,7 @@ use Rattle.mi_tree.specs.Passing.{lets_through, passes}
 use Rattle.mi_tree.proofs.ListLemmas.{all_any, all_weaker, filter_same}
 use Rattle.mi_plain.specs.Opening.{AreMeasured, offerings, spanned}
 use Rattle.mi_plain.specs.Plain.{IsKept, object_in}
-use Rattle.mi_plain.proofs.RangeLemmas.{compared_few, length_live, offered_hits}
+use Rattle.mi_plain.proofs.RangeLemmas.{compared_few, few_entries, offered_hits}
 use Rattle.mi_plain.proofs.SpanLemmas.{Covered, all_covered, is_read, one_read}
 use Rattle.mi_plain.proofs.SummingLemmas.{sum_both, sum_none, sum_passed, sum_same, weigh, weigh_one, weigh_zero}
 
@@ -182,7 +182,7 @@ module _ (c : Configuration) (limits : IsWithinLimits c) (log : List LogEvent) (
     pub taken_distances : first.distances ≡ length c.pivots → w.distances ≡ length c.pivots + compared (distances (space_of c) query) radius (offerings es)
     taken_distances begun =
         let few = compared_few (distances (space_of c) query) radius es in
-        let long = length_live es log same in
+        let long = few_entries es log same in
         let counted = taken.distances_are (omega (arith, these_compared, few, long, begun, legal.few, limits.updates.1, limits.few_pivots)) in
         omega (arith, counted, these_compared, begun)
 

@@ -26,6 +26,7 @@ use Rattle.mi_rules.proofs.CandidateLemmas.{candidates_are}
 use Rattle.mi_tree.specs.Cells.{AllMaySplit}
 use Rattle.mi_tree.proofs.LegalLemmas.{grid, all_may}
 use Rattle.mi_plain.specs.Answering.{Answers}
+use Rattle.mi_plain.proofs.EntryLemmas.{length_live}
 use Rattle.mi_tree.specs.Legal.{LegalLog}
 use Rattle.mi_tree.specs.Passing.{lets_through, candidates, opened}
 
@@ -47,9 +48,9 @@ end_is log = record { within = omega (arith, end_events log); updates = ap (λ (
 pub compared_few : (dq : List ℕ) (radius : ℕ) (es : List (ℕ × Entry)) → compared dq radius (offerings es) ≤ length es
 compared_few dq radius es = omega (arith, count_by-le-length (λ (o : Offering). lets_through radius dq o.dists) (offerings es), length-map es (λ (e : ℕ × Entry). offering_of e.1))
 
--- a map has as many entries as objects are live
-pub length_live : (es : List (ℕ × Entry)) (log : List LogEvent) → SameElements (map object_in es) (live (updates_of log)) → length es ≤ length (updates_of log)
-length_live es log same = omega (arith, length-map es object_in, same_length (map object_in es) (live (updates_of log)) same, few_live (updates_of log))
+-- a map has no more entries than updates were made
+pub few_entries : (es : List (ℕ × Entry)) (log : List LogEvent) → SameElements (map object_in es) (live (updates_of log)) → length es ≤ length (updates_of log)
+few_entries es log same = omega (arith, length_live es (updates_of log) same, few_live (updates_of log))
 
 counted-cons : {X : Type 0} (p : X → Bool) (x : X) (xs : List X) → count_by p (x ∷ xs) ≡ cond (p x) 1 0 + count_by p xs
 counted-cons p x xs = sum_by-cons (λ y. cond (p y) 1 0) x xs

@@ -34,6 +34,7 @@ use Rattle.mi_tree.proofs.LegalLemmas.{live_updated}
 use Rattle.mi_tree.proofs.ListLemmas.{all_weaker}
 use Rattle.mi_plain.specs.Plain.{IsKept, IsPlain, grid_for, leaf_key, object_in}
 use Rattle.mi_plain.proofs.EntryLemmas.{found, absent_looked_up, same_inserted, same_removed, all_inserted, all_removed}
+use Rattle.mi_plain.proofs.SplittingLemmas.{plain_actor}
 
 -- an update keeps the leaf of each permutation
 leaf_updated : (g : Grid) (log : List LogEvent) (session op : ℕ) (u : Update) (perm : List ℕ) → leaf_of g (log ++ Made session op u ∷ []) perm ≡ leaf_of g log perm
@@ -59,15 +60,7 @@ kept_updated c log session op u id e h = record {
 module _ (b : BoardState) (pivots : List (List ℤ)) (levels cell : ℕ) (entries : List (ℕ × Entry)) (p : IsPlain b pivots levels cell entries) where
   -- an actor's claim or reservation changes
   pub plain_changed : (b' : BoardState) (f : ActorState → ActorState) (actor : ℕ) → b' ≡ with_actor f actor b → IsPlain b' pivots levels cell entries
-  plain_changed b' f actor is = subst (λ (x : BoardState). IsPlain x pivots levels cell entries) (sym is) (record {
-    limits = p.limits;
-    pivots_are = p.pivots_are;
-    levels_are = p.levels_are;
-    cell_is = p.cell_is;
-    two = length-change f actor b.actors ∙ p.two;
-    same = p.same;
-    kept = p.kept;
-  })
+  plain_changed b' f actor is = subst (λ (x : BoardState). IsPlain x pivots levels cell entries) (sym is) (plain_actor b pivots levels cell entries p f actor)
 
   -- an update is made, of these objects
   plain_updated : (b' : BoardState) (entries' : List (ℕ × Entry)) (session op : ℕ) (u : Update) (actors : List ActorState) → length actors ≡ 2
