@@ -221,7 +221,14 @@ fn the_greatest_distance_and_identifier_are_answered(rt: HostRuntime) -> Result<
     let id = "1099511627775";
     let script = joined(
         alloc,
-        &["insert,", id, near.as_str(), "\nrange,0", near.as_str(), "\n"],
+        &[
+            "insert,",
+            id,
+            near.as_str(),
+            "\nrange,0",
+            near.as_str(),
+            "\n",
+        ],
     )?;
     let replies = "session,0\nstored,1\nrange,1,0,1,1,2\n0,1099511627775\n";
     let end = "\ncells,1\n0,1\nentries,1\npages,1,4\n";
