@@ -27,7 +27,7 @@ use Rattle.mi_tree.specs.Cells.{Grid, grid_of}
 use Rattle.mi_tree.specs.Counting.{belongs, beginning, is_crowded, is_wanted, placed}
 use Rattle.mi_tree.specs.Legal.{MayFollow, cells_of}
 
--- the settings of the index, its log, what each actor claims and has reserved, and the leaves that were split, oldest first
+-- the settings of the index, its log, what each actor claims and has reserved, and the leaves that were split and not yet swept, oldest first
 pub record BoardState : Type 0 where
   pub settings : Configuration
   pub log : List LogEvent

@@ -1,5 +1,5 @@
 //! The board.
-ghost use Rattle.std.specs.Prelude.{◌≡◌, ◌≢◌, ◌<◌, ◌≤◌, None, Some, count_by, replicate, length, true, false, IfOk, IfNone, IfSome, OnErr};
+ghost use Rattle.std.specs.Prelude.{◌≡◌, ◌≢◌, ◌<◌, ◌≤◌, None, Some, count_by, replicate, length, true, false, IfOk, IfNone, IfSome};
 ghost use Rattle.mi_base.specs.declared.records.Update.TheVariants.{Insert, Delete};
 ghost use Rattle.mi_base.specs.Configuration.{IsWithinLimits};
 ghost use Rattle.mi_base.specs.History.{end_of};
@@ -19,7 +19,7 @@ use std::collections::VecDeque;
 use std::marker::Model;
 
 /// The log with the cells after it, the leaves that actors claim, who has reserved room in the log, and the leaves that were
-/// split, oldest first. The log is legal after every call.
+/// split and not yet swept, oldest first. The log is legal after every call.
 #[derive(Drop)]
 pub struct Board {
     settings: Settings,
@@ -112,6 +112,7 @@ impl Board {
         &self.catalog
     }
 
+    /// The end of the log, which is the floor too, and the root of the pages, which is 0 at height 0.
     pub fn look(&self) -> Look
         ensures { result ≡ looked self.now }
     {

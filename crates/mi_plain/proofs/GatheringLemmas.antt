@@ -32,14 +32,6 @@ gather_in p e es h = rw h refl
 pub gather_out : (p : List ℕ) (e : Entry) (es : List Entry) → entry_begins p e ≡ false → gathered p (e ∷ es) ≡ gathered p es
 gather_out p e es h = rw h refl
 
--- one entry more is gathered
-pub gather_more : (p : List ℕ) (e : Entry) (es : List Entry) (sofar whole : List Placed) → sofar ++ gathered p (e ∷ es) ≡ whole → entry_begins p e ≡ true → (sofar ++ placed_entry e ∷ []) ++ gathered p es ≡ whole
-gather_more p e es sofar whole h b = append_assoc sofar (placed_entry e ∷ []) (gathered p es) ∙ ap (λ xs. sofar ++ xs) (sym (gather_in p e es b)) ∙ h
-
--- and one of another leaf isn't
-pub gather_less : (p : List ℕ) (e : Entry) (es : List Entry) (sofar whole : List Placed) → sofar ++ gathered p (e ∷ es) ≡ whole → entry_begins p e ≡ false → sofar ++ gathered p es ≡ whole
-gather_less p e es sofar whole h b = ap (λ xs. sofar ++ xs) (sym (gather_out p e es b)) ∙ h
-
 -- the entries of a map are gathered as its objects are
 gathered_objects : (c : Configuration) (log : List LogEvent) (p : List ℕ) (entries : List (ℕ × Entry)) → AllByRecursion (λ e. IsKept c log e.0 e.1) entries
     → gathered p (values_of entries) ≡ map (placed (grid_for c)) (filter (belongs (grid_for c) p) (map object_in entries))

@@ -1,5 +1,5 @@
 //! Entries under the keys of their leaves.
-ghost use Rattle.std.specs.Prelude.{◌≡◌, ◌≤◌, IsTrue, OnOk, length};
+ghost use Rattle.std.specs.Prelude.{◌≡◌, ◌≤◌, IsTrue, OnOk};
 ghost use Rattle.mi_plain.specs.Opening.{AreMeasured, offerings, spanned};
 ghost use Rattle.mi_plain.specs.Plain.{rekeyed};
 ghost use Rattle.mi_range.specs.Ranging.{Takes};

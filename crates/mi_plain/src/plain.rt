@@ -1,5 +1,5 @@
 //! The plain list.
-ghost use Rattle.std.specs.Prelude.{◌≡◌, ◌+◌, ◌<◌, ◌≤◌, ◌∷◌, [], None, Some, cond, true, false, length, map, ℕ, ◌++◌, ◌^◌, All, IfErr, IfOk, IsTrue, OnErr, OnOk};
+ghost use Rattle.std.specs.Prelude.{◌≡◌, ◌+◌, ◌<◌, ◌≤◌, ◌∷◌, [], None, Some, true, false, length, map, ℕ, ◌++◌, ◌^◌, All, IfOk, IsTrue, OnErr, OnOk};
 ghost use Rattle.std.specs.List.{filter};
 ghost use Rattle.mi_base.specs.Configuration.{IsWithinLimits, metric_space, space_of};
 ghost use Rattle.mi_base.specs.History.{end_of, is_live, live, updates_of};
@@ -76,10 +76,9 @@ impl Plain {
         ensures legal { LegalLog self.now.settings self.now.log }
         ensures limits { IsWithinLimits self.now.settings }
     {
-        let log = self.board.log();
-        let Position { updates, splits } = self.board.look().at;
-        let _ = log;
-        Position { updates, splits }
+        // The log tells that it is legal.
+        let _ = self.board.log();
+        self.board.look().at
     }
 
     /// How many objects are live.

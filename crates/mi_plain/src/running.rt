@@ -1,5 +1,5 @@
-//! Runs one script alone, operation by operation, each followed by one of the splitter.
-ghost use Rattle.std.specs.Prelude.{◌≡◌, ◌<◌, ◌≤◌, ◌||◌, [], Bool, IfOk, OnErr, OnOk, length, true, false};
+//! Runs one script alone, operation by operation, each followed by one step of the splitter.
+ghost use Rattle.std.specs.Prelude.{◌≡◌, ◌<◌, ◌≤◌, ◌||◌, [], IfOk, length, true, false};
 ghost use Rattle.std.specs.List.{list_any};
 ghost use Rattle.mi_base.specs.Configuration.{metric_space};
 ghost use Rattle.mi_base.specs.Scripts.{AreServed, IsOpOver, IsScriptOver, IsServed};

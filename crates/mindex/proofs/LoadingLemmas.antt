@@ -39,13 +39,6 @@ too_large file look bytes many =
     let passes : nat_le (length bytes) 67108864 ≡ false = grind (arith, nat_tests) in
     ap (λ b. cond b (located file (look bytes)) (Err (Record file 0 reason.Large))) passes
 
--- the file was read and found good
-pub loads_ok : {X : Type 0} (told : Option (List ℕ)) (file reads reads' : ℕ) (look : List ℕ → Result X Fault) (bytes : List ℕ) (x : X)
-    → Reads told [] bytes → look bytes ≡ Ok x → reads ≤ reads' → Loads told file reads reads' (in_file file look) (Ok x)
-loads_ok told file reads reads' look bytes x r found grows =
-    let t = read_text_is told bytes r in
-    record { text = bytes; told_is = t.0; finds = sized file look bytes t.1 ∙ ap (located file) found; grows = grows }
-
 -- the file was read and has a fault
 pub loads_fault : {X : Type 0} (told : Option (List ℕ)) (file reads reads' : ℕ) (look : List ℕ → Result X Fault) (bytes : List ℕ) (fault : InputFault)
     → Reads told [] bytes → IsFaultOf (look bytes) fault → reads ≤ reads' → Loads told file reads reads' (in_file file look) (Err (fault_stop file fault))

@@ -59,8 +59,8 @@ refusal_status (Record zero number why) = 2
 refusal_status (Record (suc file) number why) = 3
 refusal_status (Table fault) = 2
 
--- THE HEADLINE. The text is the transcript of replies and a log that are legal for the script, and each operation
--- found the log as those before it left it. Where the splitter gave up no split, no leaf is left to be split.
+-- THE HEADLINE. The text is the transcript of replies and a log that are legal for the script, and each operation began when the
+-- log had the updates of those before it and no others. Where the splitter gave up no split, no leaf is left to be split.
 pub record IsTranscript (inputs : Inputs) (short : Bool) (text : List ℕ) : Type 0 where
   pub replies : List (List Reply)
   pub log : List LogEvent

@@ -1,5 +1,5 @@
 //! The trusted edge: files of the system and standard output, which tell no content.
-ghost use Rattle.std.specs.Prelude.{◌≡◌, ◌+◌, ℕ, None, IfOk, length};
+ghost use Rattle.std.specs.Prelude.{◌≡◌, ◌+◌, None, IfOk, length};
 ghost use Rattle.std.specs.Io.{StartsWith};
 
 use mi_outside::{Files, MAX_FILE, ReadRefusal, Sink, SinkFailed};
@@ -15,6 +15,7 @@ pub struct RealFiles<'a, R> {
 }
 
 impl<'a, R: SystemFiles> RealFiles<'a, R> {
+    /// Files of which no read has failed yet.
     pub fn new(rt: &'a R) -> Self
         ensures { result.faults ≡ 0 }
     {
@@ -57,6 +58,7 @@ pub struct RealOut<W> {
 }
 
 impl<W: Write> RealOut<W> {
+    /// An output of which no write has failed yet.
     pub fn new(writer: W) -> Self
         ensures { result.faults ≡ 0 }
     {

@@ -1,11 +1,10 @@
 //! Reads the files of a call, in the order of the words.
-ghost use Rattle.std.specs.Prelude.{◌≡◌, ◌≤◌, ℕ, List, IfOk, IfErr};
+ghost use Rattle.std.specs.Prelude.{◌≡◌, ℕ, List, IfOk};
 ghost use Rattle.mi_base.specs.Configuration.{metric_space};
 ghost use Rattle.mi_base.specs.Scripts.{AreServed, IsScriptOver};
 ghost use Rattle.mi_input.specs.Schedules.{schedule_in};
 ghost use Rattle.mi_input.specs.Scripts.{script_in};
 ghost use Rattle.mi_input.specs.Settings.{settings_in};
-ghost use Rattle.mi_outside.specs.Outside.{Reads, RefusesRead};
 ghost use Rattle.mindex.specs.Inputs.{in_file};
 ghost use Rattle.mindex.specs.Loading.{HasMetric, Loads, LoadsAll, fault_stop, refusal_stop};
 

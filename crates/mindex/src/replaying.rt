@@ -1,5 +1,5 @@
 //! The command that replays scripts.
-ghost use Rattle.std.specs.Prelude.{◌≡◌, ◌≤◌, ℕ, List, OnErr, OnOk, IsTrue, is_some, length, map};
+ghost use Rattle.std.specs.Prelude.{◌≡◌, ℕ, List, OnErr, OnOk, IsTrue, is_some, length, map};
 ghost use Rattle.std.specs.String.{string_bytes};
 ghost use Rattle.mindex.specs.Calls.{Answered, Completes, Ends, Replayed};
 ghost use Rattle.mindex.specs.Inputs.{names_in};
