@@ -155,19 +155,30 @@ static QUERY_CASES: [(&[u8], &str, &str); 3] = [
     ),
 ];
 
-/// Each script gives its transcript, with status 0.
+/// The script gives this transcript, with status 0.
+fn check_transcript(
+    rt: &impl Abort,
+    alloc: Global,
+    settings: &[u8],
+    script: &str,
+    text: &str,
+) -> Result<(), Fail> {
+    let words = replay_words(alloc)?;
+    let mut files = files_of(alloc, settings, b"", script.as_bytes(), &[])?;
+    let mut out = MemorySink::new(alloc, 1000, &[], 10_000)?;
+    let status = replay_call(alloc, words.as_slice(), &mut files, &mut out);
+    assert_eq!(rt; status, 0, "{script}");
+    assert_eq!(rt; out.bytes(), text.as_bytes(), "{script}");
+    Ok(())
+}
+
 fn check_transcripts(
     rt: &impl Abort,
     alloc: Global,
     cases: &[(&[u8], &str, &str)],
 ) -> Result<(), Fail> {
-    let words = replay_words(alloc)?;
     for (settings, script, text) in cases {
-        let mut files = files_of(alloc, settings, b"", script.as_bytes(), &[])?;
-        let mut out = MemorySink::new(alloc, 1000, &[], 10_000)?;
-        let status = replay_call(alloc, words.as_slice(), &mut files, &mut out);
-        assert_eq!(rt; status, 0, "{script}");
-        assert_eq!(rt; out.bytes(), text.as_bytes(), "{script}");
+        check_transcript(rt, alloc, settings, script, text)?;
     }
     Ok(())
 }
@@ -202,12 +213,11 @@ fn corner(alloc: Global, coordinate: &str) -> Result<String, Fail> {
     Ok(text)
 }
 
-/// These texts one after another.
-fn joined(alloc: Global, parts: &[&str]) -> Result<String, Fail> {
+fn between(alloc: Global, before: &str, middle: &str, after: &str) -> Result<String, Fail> {
     let mut text = String::new(alloc);
-    for part in parts {
-        text.push_str(part)?;
-    }
+    text.push_str(before)?;
+    text.push_str(middle)?;
+    text.push_str(after)?;
     Ok(text)
 }
 
@@ -217,27 +227,21 @@ fn the_greatest_distance_and_identifier_are_answered(rt: HostRuntime) -> Result<
     let far = corner(alloc, "1000000")?;
     let near = corner(alloc, "-1000000")?;
     let sizes = "\nlevels,1\ncell,4\nupdates,8\npages,4\n";
-    let settings = joined(alloc, &["metric,l1\ndims,64\npivot", far.as_str(), sizes])?;
-    let id = "1099511627775";
-    let script = joined(
-        alloc,
-        &[
-            "insert,",
-            id,
-            near.as_str(),
-            "\nrange,0",
-            near.as_str(),
-            "\n",
-        ],
-    )?;
-    let replies = "session,0\nstored,1\nrange,1,0,1,1,2\n0,1099511627775\n";
+    let settings = between(alloc, "metric,l1\ndims,64\npivot", far.as_str(), sizes)?;
+    let insert = between(alloc, "insert,1099511627775", near.as_str(), "\n")?;
+    let range = between(alloc, "range,0", near.as_str(), "\n")?;
+    let script = between(alloc, insert.as_str(), range.as_str(), "")?;
+    let replies =
+        "session,0\nstored,1\nrange,1,0,1,1,2\n0,1099511627775\nhistory,1,0\ninsert,0,1,1099511627775";
     let end = "\ncells,1\n0,1\nentries,1\npages,1,4\n";
-    let text = joined(
+    let text = between(alloc, replies, near.as_str(), end)?;
+    check_transcript(
+        &rt,
         alloc,
-        &[replies, "history,1,0\ninsert,0,1,", id, near.as_str(), end],
-    )?;
-    let cases = [(settings.as_bytes(), script.as_str(), text.as_str())];
-    check_transcripts(&rt, alloc, &cases)
+        settings.as_bytes(),
+        script.as_str(),
+        text.as_str(),
+    )
 }
 
 #[test]
