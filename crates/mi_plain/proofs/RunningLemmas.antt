@@ -15,7 +15,7 @@ use Rattle.mi_tree.specs.Legal.{EachRight, Legal, LegalLog, NeverFalls, Settled,
 use Rattle.mi_tree.specs.InTurn.{AloneInTurn, InTurn, updates_after}
 use Rattle.mi_tree.specs.Right.{Right}
 use Rattle.mi_tree.proofs.ListLemmas.{all_joined}
-use Rattle.mi_plain.specs.Answering.{Answers, Grows, GrowsBySplits, Ran}
+use Rattle.mi_plain.specs.Answering.{Answers, Grows, GrowsBySplits, Ran, RanAlone}
 use Rattle.mi_plain.specs.Outcomes.{IsFinished, IsOutcomeOf, has_memory, is_memory}
 use Rattle.mi_plain.proofs.GrowingLemmas.{StaysFull, full_stays, grows_length, grows_none, grows_on, length-updates_of, reach_grows, right_grows}
 
@@ -160,6 +160,7 @@ finished_outcome c os ys mid log given_up o f legal ran s pivots settled =
     record {
       legal = subst (λ rs. Legal c (os ∷ []) rs o.log) (sym f.replies_are) (subst (λ l. Legal c (os ∷ []) (ys ∷ []) l) (sym f.log_is) (ran_legal c os ys mid log legal ran s));
       turns = subst AloneInTurn (sym f.replies_are) (ran_in_turn c [] mid 0 1 os ys ran);
+      ran = subst (λ rs. RanAlone c os rs o.log) (sym f.replies_are) (subst (λ l. RanAlone c os (ys ∷ []) l) (sym f.log_is) (mid, (ran, s)));
       cells_are = f.cells_are ∙ ap (cells_of c) (sym f.log_is);
       entries_are = f.entries_are ∙ ap (λ l. length (live (updates_of l))) (sym f.log_is);
       one_page = f.one_page;

@@ -3,7 +3,7 @@ use Rattle.std.specs.Prelude.{◌≡◌, ℕ, ◌+◌, ◌≤◌, List, [], ◌�
 use Rattle.mi_base.specs.declared.records.LogEvent.{LogEvent}
 use Rattle.mi_base.specs.declared.records.Op.{Op}
 use Rattle.mi_base.specs.declared.records.Reply.{Reply}
-use Rattle.mi_base.specs.declared.records.Reply.TheVariants.{Range}
+use Rattle.mi_base.specs.declared.records.Reply.TheVariants.{Present, Absent, Full, Range}
 use Rattle.mi_base.specs.Configuration.{Configuration}
 use Rattle.mi_base.specs.History.{entered, updates_of}
 use Rattle.mi_tree.specs.Right.{Right}
@@ -33,12 +33,24 @@ pub record Answers (c : Configuration) (old : List LogEvent) (session op : ℕ) 
   pub began : BeganAt (length (updates_of old)) y
   pub tells : TellsBetween old new y
 
+-- a refusal that isn't want of memory leaves the log as it was
+abbrev pub Keeps : List LogEvent → Reply → List LogEvent → Type 0
+Keeps old (Present p) new = new ≡ old
+Keeps old (Absent p) new = new ≡ old
+Keeps old (Full limit) new = new ≡ old
+Keeps old y new = Unit {0}
+
 -- operations one after another, from one log to another; op is the number of the first
 abbrev pub Ran : Configuration → List LogEvent → ℕ → ℕ → List Op → List Reply → List LogEvent → Type 0
 Ran c old session op [] [] new = new ≡ old
 Ran c old session op (o ∷ os) (y ∷ ys) new = (mid : List LogEvent) × (Answers c old session op o y mid × Ran c mid session (op + 1) os ys new)
 Ran c old session op [] (y ∷ ys) new = ⊥
 Ran c old session op (o ∷ os) [] new = ⊥
+
+-- One script alone: each operation found the log as those before it and the splits so far left it, and splits follow the last one.
+abbrev pub RanAlone : Configuration → List Op → List (List Reply) → List LogEvent → Type 0
+RanAlone c script (ys ∷ []) log = (last : List LogEvent) × (Ran c [] 0 1 script ys last × GrowsBySplits last log)
+RanAlone c script yss log = ⊥
 
 -- a range query takes one step for each distance that its reply tells
 abbrev pub Works : ℕ → Reply → ℕ → Type 0

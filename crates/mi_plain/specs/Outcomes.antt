@@ -10,6 +10,7 @@ use Rattle.mi_base.specs.History.{live, updates_of}
 use Rattle.mi_tree.specs.declared.outcomes.Outcome.{Outcome}
 use Rattle.mi_tree.specs.Legal.{Legal, Settled, cells_of}
 use Rattle.mi_tree.specs.InTurn.{AloneInTurn}
+use Rattle.mi_plain.specs.Answering.{RanAlone}
 
 abbrev pub is_memory : Reply → Bool
 is_memory Memory = true
@@ -30,6 +31,7 @@ pub record IsShort (c : Configuration) (o : Outcome) : Type 0 where
 pub record IsOutcomeOf (c : Configuration) (script : List Op) (o : Outcome) : Type 0 where
   pub legal : Legal c (script ∷ []) o.replies o.log
   pub turns : AloneInTurn o.replies
+  pub ran : RanAlone c script o.replies o.log
   pub cells_are : o.cells ≡ cells_of c o.log
   pub entries_are : o.entries ≡ length (live (updates_of o.log))
   pub one_page : o.allotted ≡ 1

@@ -2,12 +2,12 @@
 ghost use Rattle.std.specs.Prelude.{◌≡◌, ◌+◌, ◌<◌, ◌≤◌, ◌∷◌, [], None, Some, true, false, length, map, ℕ, ◌++◌, ◌^◌, All, IfOk, IsTrue, OnErr, OnOk};
 ghost use Rattle.std.specs.List.{filter};
 ghost use Rattle.mi_base.specs.Configuration.{IsWithinLimits, metric_space, space_of};
-ghost use Rattle.mi_base.specs.History.{end_of, is_live, live, updates_of};
+ghost use Rattle.mi_base.specs.History.{end_of, is_live, live, splits_of, updates_of};
 ghost use Rattle.mi_base.specs.Permutations.{distances, key_distance};
 ghost use Rattle.mi_base.specs.Sorting.{SameElements};
 ghost use Rattle.mi_board.specs.Actors.{actor_at, idle, released};
 ghost use Rattle.mi_board.specs.Boards.{HasRoom, MayCommit, MayInsert, crowded_at, grid_in, opened_board, with_actor, with_split};
-ghost use Rattle.mi_plain.specs.Answering.{Answers, GrowsBySplits, Works};
+ghost use Rattle.mi_plain.specs.Answering.{Answers, GrowsBySplits, Keeps, Works};
 ghost use Rattle.mi_plain.specs.Plain.{IsKept, NoClaims, work_left};
 ghost use Rattle.mi_tree.specs.Counting.{belongs, beginning, placed};
 ghost use Rattle.mi_tree.specs.Legal.{LegalLog, MayFollow, Settled, cells_of};
@@ -111,6 +111,7 @@ impl Plain {
         ensures settings { self.new.settings ≡ self.old.settings }
         ensures idle { NoClaims self.new }
         ensures answers { Answers self.old.settings self.old.log SESSION op (Op.Insert id vector.now) result self.new.log }
+        ensures keeps { Keeps self.old.log result self.new.log }
     {
         if self.has(&id) {
             return Reply::Present { at: self.end() };
@@ -138,6 +139,8 @@ impl Plain {
         ensures settings { self.new.settings ≡ self.old.settings }
         ensures idle { NoClaims self.new }
         ensures answers { Answers self.old.settings self.old.log SESSION op (Op.Delete id) result self.new.log }
+        ensures keeps { Keeps self.old.log result self.new.log }
+        ensures splits { splits_of self.new.log ≡ splits_of self.old.log }
     {
         if !self.has(&id) {
             return Reply::Absent { at: self.end() };

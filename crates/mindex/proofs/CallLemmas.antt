@@ -45,6 +45,7 @@ runs_to l o said is status = record {
     given_up = is.short.given_up;
     legal = is.legal;
     turns = is.turns;
+    ran = is.ran;
     entries_are = is.entries_are;
     settled = is.short.settled;
     only_under_pivots = is.short.pivots;

@@ -15,6 +15,7 @@ use Rattle.mi_table.specs.declared.faults.TableFault.TheVariants as table
 use Rattle.mindex.specs.declared.refusals.Refusal.{Refusal}
 use Rattle.mindex.specs.declared.refusals.Refusal.TheVariants.{Record, Table}
 use Rattle.mindex.specs.Inputs.{Names, Texts, Inputs, AreTextsOf, inputs_of, GoodBefore}
+use Rattle.mi_plain.specs.Answering.{RanAlone}
 use Rattle.mi_plain.specs.Outcomes.{has_memory}
 
 abbrev pub usage_line : List ℕ
@@ -59,8 +60,8 @@ refusal_status (Record zero number why) = 2
 refusal_status (Record (suc file) number why) = 3
 refusal_status (Table fault) = 2
 
--- THE HEADLINE. The text is the transcript of replies and a log that are legal for the script, and each operation began when the
--- log had the updates of those before it and no others. Where the splitter gave up no split, no leaf is left to be split.
+-- THE HEADLINE. The text is the transcript of replies and a log that are legal for the script, and each operation found the log as
+-- those before it and the splits so far left it. Where the splitter gave up no split, no leaf is left to be split.
 pub record IsTranscript (inputs : Inputs) (short : Bool) (text : List ℕ) : Type 0 where
   pub replies : List (List Reply)
   pub log : List LogEvent
@@ -68,6 +69,7 @@ pub record IsTranscript (inputs : Inputs) (short : Bool) (text : List ℕ) : Typ
   pub given_up : Bool
   pub legal : Legal inputs.settings (inputs.script ∷ []) replies log
   pub turns : AloneInTurn replies
+  pub ran : RanAlone inputs.settings inputs.script replies log
   pub entries_are : entries ≡ length (live (updates_of log))
   pub settled : given_up ≡ false → Settled inputs.settings log
   pub only_under_pivots : given_up ≡ true → 1 ≤ length inputs.settings.pivots
