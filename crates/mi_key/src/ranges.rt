@@ -1,5 +1,5 @@
 //! Intervals of keys.
-ghost use Rattle.std.specs.Prelude.{◌≡◌};
+ghost use Rattle.std.specs.Prelude.{◌≡◌, ◌&&◌, ℕ};
 ghost use Rattle.mi_key.specs.Ranges.{is_within};
 
 use crate::Key;
@@ -12,9 +12,20 @@ pub struct Interval {
 }
 
 impl Interval {
+    /// Whether the key lies in the interval.
     pub fn has(&self, key: &Key) -> bool
         ensures { result ≡ is_within self.now key.now }
     {
         self.from <= *key && *key <= self.to
+    }
+
+    /// The keys that both intervals have.
+    pub fn meet(&self, other: &Interval) -> Interval
+        ensures { (key : ℕ) → is_within result key ≡ (is_within self.now key && is_within other.now key) }
+    {
+        Interval {
+            from: self.from.max(other.from),
+            to: self.to.min(other.to),
+        }
     }
 }

@@ -1,11 +1,11 @@
 -- What a query for the nearest keeps of the entries that it is offered.
-use Rattle.std.specs.Prelude.{◌≡◌, ◌+◌, ◌≤◌, ◌++◌, [], ◌∷◌, ℕ, ℤ, List, Bool, true, cond, length, map, take, nat_lt, Option, Some, None}
+use Rattle.std.specs.Prelude.{◌≡◌, ◌+◌, ◌≤◌, ◌++◌, ℕ, ℤ, List, Bool, true, length, map, take, Option, Some, None}
 use Rattle.mi_base.specs.declared.records.Row.{Row}
 use Rattle.mi_base.specs.History.{row_cmp, row_of}
 use Rattle.mi_base.specs.Sorting.{sorted}
 use Rattle.mi_base.specs.Space.{MetricSpace}
 use Rattle.mi_key.specs.Entries.{Offering}
-use Rattle.mi_tree.specs.Passing.{lets_through}
+use Rattle.mi_tree.specs.Passing.{kth_distance, lets_through}
 
 -- the query's distances to the pivots, how many rows it is for, the rows kept in their order, and how many rows more there is room for
 pub record Nearing : Type 0 where
@@ -18,15 +18,9 @@ pub record Nearing : Type 0 where
 abbrev pub first_rows : ℕ → List Row → List Row
 first_rows count rows = take count (sorted row_cmp rows)
 
--- the distance in the last row
-abbrev pub last_distance : List Row → Option ℕ
-last_distance [] = None
-last_distance (row ∷ []) = Some row.distance
-last_distance (row ∷ next ∷ rows) = last_distance (next ∷ rows)
-
 -- the greatest distance kept, once there are as many rows as the query is for
 abbrev pub worst_of : Nearing → Option ℕ
-worst_of w = cond (nat_lt (length w.rows) w.count) None (last_distance w.rows)
+worst_of w = kth_distance w.count w.rows
 
 -- an object may still be among the nearest: there are too few rows, or the filter lets it through at the greatest distance kept
 abbrev pub may_be_near : Option ℕ → List ℕ → List ℕ → Bool

@@ -2,9 +2,11 @@
 #![tactic(auto)]
 
 mod laws;
+mod order;
 mod work;
 
 pub use laws::{first_rows_stay, taking_goes_on};
+pub use order::{Rank, ranked};
 pub use work::NearestWork;
 
 #[cfg(test)]

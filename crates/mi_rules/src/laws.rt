@@ -12,10 +12,10 @@ ghost use Rattle.mi_tree.specs.declared.outcomes.Leaf.{Leaf};
 ghost use Rattle.mi_tree.specs.Cells.{AllMaySplit, grid_of};
 ghost use Rattle.mi_tree.specs.Passing.{IsBound, candidates, lets_through, passes};
 ghost use Rattle.mi_rules.specs.Answers.{IsAnswer, MayHold};
-ghost use Rattle.mi_rules.specs.Spans.{is_in_span};
+ghost use Rattle.mi_rules.specs.Spans.{is_in_span, is_near};
 
 /// No rule drops an answer: the filter lets an object within the radius through, each leaf that may hold it passes and has no
-/// bound above the radius, and its key there is in the leaf's span.
+/// bound above the radius, and its key there is in the leaf's span, also where that is cut to the hull.
 pub fn no_answer_is_dropped()
     ensures filter { (space : Space) (query object : List ℤ) (radius : ℕ) → IsAnswer space query object radius
         → lets_through radius (distances space query) (distances space object) ≡ true }
@@ -27,6 +27,10 @@ pub fn no_answer_is_dropped()
         → (leaf : Leaf) → MayHold leaf (distances space object) → (leaf.prefix ≡ [] → space.pivots ≡ [])
         → (levels : ℕ) (key : KeyParts) → key.cluster ≡ cluster_of (length space.pivots) levels leaf.prefix → key.distance ≡ key_distance (distances space object)
         → is_in_span (distances space query) radius levels leaf.prefix key ≡ true }
+    ensures near { (space : Space) (query object : List ℤ) (radius : ℕ) → IsAnswer space query object radius
+        → (leaf : Leaf) → MayHold leaf (distances space object) → (leaf.prefix ≡ [] → space.pivots ≡ []) → (hull : ℕ × ℕ) → leaf.hull ≡ Some hull
+        → (levels : ℕ) (key : KeyParts) → key.cluster ≡ cluster_of (length space.pivots) levels leaf.prefix → key.distance ≡ key_distance (distances space object)
+        → is_near (distances space query) (Some radius) levels leaf.prefix hull key ≡ true }
 {}
 
 /// What passes at a radius passes at each greater one, so from its bound on.

@@ -9,7 +9,7 @@ mod spans;
 pub use bounds::{bound, passes};
 pub use filters::filter;
 pub use laws::{filter_implies_passing, no_answer_is_dropped, passing_grows};
-pub use spans::span;
+pub use spans::{near_span, span};
 
 #[cfg(test)]
 mod tests;

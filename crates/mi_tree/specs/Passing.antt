@@ -1,9 +1,10 @@
 -- Which cells a query opens, and which objects it is compared with: the pruning rules of the M-Index (Novak, Batko and
 -- Zezula, Information Systems 36, 2011). Of the query they know its distances to the pivots alone.
-use Rattle.std.specs.Prelude.{◌≡◌, ◌+◌, ◌*◌, ◌≤◌, ◌&&◌, ◌||◌, [], ◌∷◌, ℕ, ℤ, List, Bool, true, false, length, take, nat_le, slice_index, count_by, Option, Some, None}
+use Rattle.std.specs.Prelude.{◌≡◌, ◌+◌, ◌*◌, ◌≤◌, ◌&&◌, ◌||◌, [], ◌∷◌, ℕ, ℤ, List, Bool, true, false, cond, is_some, length, take, nat_le, nat_lt, slice_index, count_by, Option, Some, None}
 use Rattle.std.specs.Int.{abs_diff}
-use Rattle.std.specs.List.{filter, list_all, list_any, range_with_len, zip}
+use Rattle.std.specs.List.{filter, list_all, list_any, range_with_len, sum_by, zip}
 use Rattle.mi_base.specs.declared.records.LogEvent.{LogEvent}
+use Rattle.mi_base.specs.declared.records.Row.{Row}
 use Rattle.mi_base.specs.Prefixes.{has}
 use Rattle.mi_base.specs.Permutations.{distances}
 use Rattle.mi_base.specs.History.{Object, live, updates_of}
@@ -59,3 +60,27 @@ is_opened space levels log query r o = list_any (λ l. belongs (grid_of space le
 abbrev pub candidates : Space → ℕ → List LogEvent → List ℤ → ℕ → List Object
 candidates space levels log query r =
     filter (λ o. is_opened space levels log query r o && lets_through r (distances space query) (distances space o.vector)) (live (updates_of log))
+
+-- the distance in the last row
+abbrev pub last_distance : List Row → Option ℕ
+last_distance [] = None
+last_distance (row ∷ []) = Some row.distance
+last_distance (row ∷ next ∷ rows) = last_distance (next ∷ rows)
+
+-- the distance of the farthest of so many rows; none where there are fewer
+abbrev pub kth_distance : ℕ → List Row → Option ℕ
+kth_distance count rows = cond (nat_lt (length rows) count) None (last_distance rows)
+
+-- A query for the nearest opens the leaf. While there are too few rows that is each leaf with a hull, and otherwise each whose bound is
+-- no greater than the last row's distance, so each that passes there.
+abbrev pub is_reached : List ℕ → Option ℕ → Leaf → Bool
+is_reached dq None leaf = is_some leaf.hull
+is_reached dq (Some worst) leaf = passes dq worst leaf
+
+-- how many leaves after the log such a query opens
+abbrev pub reached : Space → ℕ → List LogEvent → List ℤ → Option ℕ → ℕ
+reached space levels log query worst = count_by (is_reached (distances space query) worst) (cat (grid_of space levels) log)
+
+-- how many live objects these leaves have
+abbrev pub reached_objects : Space → ℕ → List LogEvent → List ℤ → Option ℕ → ℕ
+reached_objects space levels log query worst = sum_by (λ l. cond (is_reached (distances space query) worst l) l.count 0) (cat (grid_of space levels) log)

@@ -4,14 +4,14 @@ use Rattle.mi_base.specs.declared.records.Update.{Update}
 use Rattle.mi_base.specs.declared.records.Update.TheVariants as update
 use Rattle.mi_base.specs.declared.records.LogEvent.{LogEvent}
 use Rattle.mi_base.specs.declared.records.Op.{Op}
-use Rattle.mi_base.specs.declared.records.Op.TheVariants.{Insert, Delete, Range}
+use Rattle.mi_base.specs.declared.records.Op.TheVariants.{Insert, Delete, Range, Nearest}
 use Rattle.mi_base.specs.declared.records.Reply.{Reply}
 use Rattle.mi_base.specs.declared.records.Reply.TheVariants as reply
 use Rattle.mi_base.specs.declared.records.Position.{Position}
 use Rattle.mi_base.specs.declared.records.Row.{Row}
 use Rattle.mi_base.specs.Configuration.{Configuration, metric_space, space_of}
-use Rattle.mi_base.specs.History.{Entered, entered, updates_of, at_position, IsPosition, is_live, range_scan}
-use Rattle.mi_tree.specs.Passing.{opened, candidates}
+use Rattle.mi_base.specs.History.{Entered, entered, updates_of, at_position, IsPosition, is_live, range_scan, nearest_scan}
+use Rattle.mi_tree.specs.Passing.{opened, candidates, kth_distance, reached}
 
 -- update number n of the log is this one
 pub record IsUpdateNumber (log : List LogEvent) (n : ℕ) (e : Entered) : Type 0 where
@@ -33,6 +33,12 @@ pub record IsRange (c : Configuration) (log : List LogEvent) (radius : ℕ) (que
   pub cells_are : cells ≡ opened (space_of c) c.levels (at_position log p) query radius
   pub distances_are : distances ≡ length c.pivots + length (candidates (space_of c) c.levels (at_position log p) query radius)
 
+-- the reply to a query for the nearest at a position: the rows are the scan, and the cells are those that have to be opened for them
+pub record IsNearest (c : Configuration) (log : List LogEvent) (count : ℕ) (query : List ℤ) (p : Position) (rows : List Row) (cells : ℕ) : Type 0 where
+  pub position : IsPosition log p
+  pub rows_are : rows ≡ nearest_scan (metric_space c) (history_at log p) query count
+  pub cells_are : cells ≡ reached (space_of c) c.levels (at_position log p) query (kth_distance count rows)
+
 -- The reply to operation number op of the session. A pair that isn't listed is not right.
 abbrev pub Right : Configuration → List LogEvent → ℕ → ℕ → Op → Reply → Type 0
 Right c log session op (Insert id vector) (reply.Stored n) =
@@ -46,5 +52,6 @@ Right c log session op (Insert id vector) (reply.Full limit) =
 Right c log session op (Delete id) (reply.Full limit) =
     (limit ≡ c.updates) × (length (updates_of log) ≡ limit) × (is_live id (updates_of log) ≡ true)
 Right c log session op (Range radius query) (reply.Range p rows cells distances) = IsRange c log radius query p rows cells distances
+Right c log session op (Nearest count query) (reply.Nearest p rows cells) = IsNearest c log count query p rows cells
 Right c log session op o reply.Memory = Unit {0}
 Right c log session op o y = ⊥
