@@ -19,7 +19,8 @@ use Rattle.mi_base.proofs.SortingLemmas.{ascending_unique, same_sorted, sorted_a
 use Rattle.mi_key.specs.Entries.{Offering}
 use Rattle.mi_rules.specs.Answers.{Measured}
 use Rattle.mi_rules.proofs.RuleLemmas.{not_less, refused_far}
-use Rattle.mi_nearest.specs.Nearing.{Nearing, Takes, first_rows, last_distance, may_be_near, worst_of}
+use Rattle.mi_tree.specs.Passing.{last_distance}
+use Rattle.mi_nearest.specs.Nearing.{Nearing, Takes, first_rows, may_be_near, worst_of}
 
 take_take : {X : Type 0} (k : ℕ) (xs : List X) → take k (take (suc k) xs) ≡ take k xs
 take_take zero xs = refl
@@ -51,12 +52,6 @@ ascends_take : {X : Type 0} (cmp : X → X → Ordering) (k : ℕ) (xs : List X)
 ascends_take cmp zero xs a = tt
 ascends_take cmp (suc k) [] a = tt
 ascends_take cmp (suc k) (x ∷ xs) a = (all_take (λ y. is_lt (cmp y x) ≡ false) k xs a.0, ascends_take cmp k xs a.1)
-
--- the sorted rows of the first rows are the first rows
-sorted_first : (k : ℕ) (rows : List Row) → sorted row_cmp (first_rows k rows) ≡ first_rows k rows
-sorted_first k rows =
-    ascending_unique row_cmp row_total row_exact (sorted row_cmp (first_rows k rows)) (first_rows k rows) (sorted_ascends row_cmp row_total (first_rows k rows))
-    (ascends_take row_cmp k (sorted row_cmp rows) (sorted_ascends row_cmp row_total rows)) (same_sorted row_cmp (first_rows k rows))
 
 -- a row more at the end is a row put in its place
 sorted_more : (row : Row) (rows : List Row) → sorted row_cmp (rows ++ row ∷ []) ≡ put row_cmp row (sorted row_cmp rows)

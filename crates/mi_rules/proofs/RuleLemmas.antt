@@ -24,7 +24,7 @@ use Rattle.mi_tree.specs.Passing.{IsBound, double_pivot, hull_passes, lets_throu
 use Rattle.mi_key.specs.Clusters.{cluster_of}
 use Rattle.mi_key.specs.declared.keys.KeyParts.{KeyParts}
 use Rattle.mi_rules.specs.Answers.{IsAnswer, MayHold, Measured}
-use Rattle.mi_rules.specs.Spans.{cut, is_in_span}
+use Rattle.mi_rules.specs.Spans.{cut, is_in_hull, is_in_span, is_near}
 
 -- from which radius on a hull is met
 hull_bound : (d low high r : ℕ) → range_pivot d r (low, high) ≡ nat_le (max (low - d) (d - high)) r
@@ -268,18 +268,55 @@ first_bounded : (most : ℕ) (dists perm : List ℕ) → ((j : ℕ) → slice_in
 first_bounded most dists [] h = omega arith
 first_bounded most dists (p ∷ ps) h = h p
 
+-- a key has place for the distance of an answer
+distance_small : (space : Space) (query object : List ℤ) (r : ℕ) → IsAnswer space query object r → key_distance (distances space object) < 2 ^ 27
+distance_small space query object r a =
+    let dists = distances space object in
+    let first = first_bounded 128000000 dists (permutation_of dists) (bounded_at space.metric a.metric object a.object_fits space.pivots a.pivots_fit) in
+    omega arith
+
 pub answer_spans : (space : Space) (query object : List ℤ) (r : ℕ) → IsAnswer space query object r → (leaf : Leaf) → MayHold leaf (distances space object) → (leaf.prefix ≡ [] → space.pivots ≡ [])
     → (levels : ℕ) (key : KeyParts) → key.cluster ≡ cluster_of (length space.pivots) levels leaf.prefix → key.distance ≡ key_distance (distances space object)
     → is_in_span (distances space query) r levels leaf.prefix key ≡ true
 answer_spans space query object r a leaf h empty levels key c d =
     let dq = distances space query in
     let dists = distances space object in
-    let first = first_bounded 128000000 dists (permutation_of dists) (bounded_at space.metric a.metric object a.object_fits space.pivots a.pivots_fit) in
-    let small : key_distance dists < 2 ^ 27 = omega arith in
+    let small = distance_small space query object r a in
     filter_spans dq dists r levels leaf.prefix key (same_lengths space query object) (answer_filters space query object r a) h.begun
     (λ none. ap (map (space.metric.d query)) (empty none))
     small
     (c ∙ ap (λ n. cluster_of n levels leaf.prefix) (sym (length-map space.pivots (λ p. space.metric.d query p)))) d
+
+-- a key whose distance the hull has is among the hull's keys
+pub hull_near : (dq : List ℕ) (levels : ℕ) (prefix : List ℕ) (hull : ℕ × ℕ) (parts : KeyParts) → parts.cluster ≡ cluster_of (length dq) levels prefix → parts.distance < 2 ^ 27
+    → in_hull parts.distance (Some hull) ≡ true → is_near dq None levels prefix hull parts ≡ true
+hull_near dq levels prefix hull parts c small i =
+    let ends = and_parts (nat_le hull.0 parts.distance) (nat_le parts.distance hull.1) i in
+    let low : cut hull.0 ≤ parts.distance = omega (arith, leb-true _ _ ends.0) in
+    let high : parts.distance ≤ cut hull.1 = omega (arith, leb-true _ _ ends.1) in
+    let same : nat_eq parts.cluster (cluster_of (length dq) levels prefix) ≡ true = grind (arith, nat_tests) in
+    let least : nat_le (cut hull.0) parts.distance ≡ true = grind (arith, nat_tests) in
+    let greatest : nat_le parts.distance (cut hull.1) ≡ true = grind (arith, nat_tests) in
+    and_from _ _ same (and_from _ _ least greatest)
+
+hull_cluster : (pivots levels : ℕ) (prefix : List ℕ) (hull : ℕ × ℕ) (parts : KeyParts) → is_in_hull pivots levels prefix hull parts ≡ true → parts.cluster ≡ cluster_of pivots levels prefix
+hull_cluster pivots levels prefix hull parts h = eqb-true _ _ (and_parts _ _ h).0
+
+-- what a query for the nearest reads of a leaf are keys of its cell
+pub near_cluster : (dq : List ℕ) (worst : Option ℕ) (levels : ℕ) (prefix : List ℕ) (hull : ℕ × ℕ) (parts : KeyParts) → is_near dq worst levels prefix hull parts ≡ true
+    → parts.cluster ≡ cluster_of (length dq) levels prefix
+near_cluster dq None levels prefix hull parts h = hull_cluster (length dq) levels prefix hull parts h
+near_cluster dq (Some worst) levels prefix hull parts h = hull_cluster (length dq) levels prefix hull parts (and_parts _ _ h).0
+
+pub answer_near : (space : Space) (query object : List ℤ) (r : ℕ) → IsAnswer space query object r → (leaf : Leaf) → MayHold leaf (distances space object) → (leaf.prefix ≡ [] → space.pivots ≡ [])
+    → (hull : ℕ × ℕ) → leaf.hull ≡ Some hull → (levels : ℕ) (key : KeyParts) → key.cluster ≡ cluster_of (length space.pivots) levels leaf.prefix → key.distance ≡ key_distance (distances space object)
+    → is_near (distances space query) (Some r) levels leaf.prefix hull key ≡ true
+answer_near space query object r a leaf h empty hull some levels key c d =
+    let dq = distances space query in
+    let pivots : length space.pivots ≡ length dq = sym (length-map space.pivots (λ p. space.metric.d query p)) in
+    let covered : in_hull key.distance (Some hull) ≡ true = ap (λ n. in_hull n (Some hull)) d ∙ ap (in_hull (key_distance (distances space object))) (sym some) ∙ h.covered in
+    let small : key.distance < 2 ^ 27 = omega (arith, distance_small space query object r a) in
+    and_from _ _ (hull_near dq levels leaf.prefix hull key (c ∙ ap (λ n. cluster_of n levels leaf.prefix) pivots) small covered) (answer_spans space query object r a leaf h empty levels key c d)
 
 -- what the filter refuses is farther than the radius
 pub refused_far : (m : MetricSpace) → IsMetric m → (query object : List ℤ) (dq dists : List ℕ) (r : ℕ) → IsTrue (m.fits query) → IsTrue (m.fits object) → Measured m query dq object dists
@@ -290,10 +327,6 @@ refused_far m is query object dq dists r fq fo me f =
     let P : Bool → Type 0 = λ b. nat_le (m.d query object) r ≡ b → b ≡ false in
     let go : (b : Bool) → P b = elim [ true ↦ λ e. absurd (false≢true (sym f ∙ through (leb-true (m.d query object) r e))) | false ↦ λ e. refl ] in
     go (nat_le (m.d query object) r) refl
-
--- the two lists of measured distances have one length
-pub measured_lengths : (m : MetricSpace) (query object : List ℤ) (dq dists : List ℕ) → Measured m query dq object dists → length dq ≡ length dists
-measured_lengths m query object dq dists me = ap length me.of_query ∙ same_lengths (record { metric = m; pivots = me.pivots }) query object ∙ ap length (sym me.of_object)
 
 -- from its bound on a leaf passes
 pub bound_passes : (dq : List ℕ) (leaf : Leaf) (bound : ℕ) → IsBound dq leaf (Some bound) → (r : ℕ) → passes dq r leaf ≡ nat_le bound r
