@@ -1,2 +1,3 @@
 pub mod FirstLemmas
 pub mod HeapLemmas
+pub mod WalkLemmas

@@ -57,7 +57,7 @@ counted-cons p x xs = sum_by-cons (λ y. cond (p y) 1 0) x xs
 
 module _ (c : Configuration) (log : List LogEvent) where
   -- the objects that are offered of a map's entries are its own
-  objects_offered : (es : List (ℕ × Entry)) → AllByRecursion (λ e. IsKept c log e.0 e.1) es → map (λ o. o.object) (offerings es) ≡ map object_in es
+  pub objects_offered : (es : List (ℕ × Entry)) → AllByRecursion (λ e. IsKept c log e.0 e.1) es → map (λ o. o.object) (offerings es) ≡ map object_in es
   objects_offered [] h = refl
   objects_offered (e ∷ es) h =
       let same : (parts_of e.1.key).id ≡ e.0 = h.0.named in

@@ -85,16 +85,16 @@ module _ (c : Configuration) (limits : IsWithinLimits c) (log : List LogEvent) (
       let ok = is_grid c limits log legal in
       one_leaf g (g.perm e.1.vector) (ok.perms e.1.vector).0 (ok.perms e.1.vector).1 ok log (all_may c log legal)
 
-  all_fit : AllByRecursion (Fits (length c.pivots) c.levels) (leaves (grid_for c) log)
+  pub all_fit : AllByRecursion (Fits (length c.pivots) c.levels) (leaves (grid_for c) log)
   all_fit = recursion_from_All (Fits (length c.pivots) c.levels) (leaves (grid_for c) log) (leaves_fit (grid_for c) (is_grid c limits log legal) log (all_may c log legal))
 
-  own_fits : Fits (length c.pivots) c.levels own
+  pub own_fits : Fits (length c.pivots) c.levels own
   own_fits =
       let F = Fits (length c.pivots) c.levels in
       (subst (AllByRecursion F) one (filter_keeps F (λ p. begins p ((grid_for c).perm e.1.vector)) (leaves (grid_for c) log) all_fit)).0
 
   -- without a pivot in its prefix there are none
-  own_empty : own ≡ [] → length c.pivots ≡ 0
+  pub own_empty : own ≡ [] → length c.pivots ≡ 0
   own_empty none =
       let g = grid_for c in
       let perm = g.perm e.1.vector in
@@ -105,7 +105,7 @@ module _ (c : Configuration) (limits : IsWithinLimits c) (log : List LogEvent) (
       omega (arith, long, size, deep, zero)
 
   -- the cluster in its key is that leaf's
-  cluster_is : (parts_of e.1.key).cluster ≡ cluster_of (length c.pivots) c.levels own
+  pub cluster_is : (parts_of e.1.key).cluster ≡ cluster_of (length c.pivots) c.levels own
   cluster_is =
       let parts : KeyParts = record { cluster = cluster_of (length c.pivots) c.levels own; distance = (grid_for c).distance e.1.vector; id = e.0; birth = e.1.birth } in
       let low = cluster-small (length c.pivots) c.levels own limits.few_pivots (six_levels (length c.pivots) c.levels limits.levels) own_fits.1 in

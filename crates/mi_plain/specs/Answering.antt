@@ -1,14 +1,15 @@
 -- One operation, and the operations of a script one after another.
-use Rattle.std.specs.Prelude.{◌≡◌, ℕ, ◌+◌, ◌≤◌, List, [], ◌∷◌, ◌++◌, length, MatchOption}
+use Rattle.std.specs.Prelude.{◌≡◌, ℕ, ℤ, ◌+◌, ◌≤◌, List, [], ◌∷◌, ◌++◌, length, MatchOption}
 use Rattle.mi_base.specs.declared.records.LogEvent.{LogEvent}
 use Rattle.mi_base.specs.declared.records.Op.{Op}
 use Rattle.mi_base.specs.declared.records.Reply.{Reply}
-use Rattle.mi_base.specs.declared.records.Reply.TheVariants.{Present, Absent, Full, Range}
-use Rattle.mi_base.specs.Configuration.{Configuration}
+use Rattle.mi_base.specs.declared.records.Reply.TheVariants.{Present, Absent, Full, Range, Nearest}
+use Rattle.mi_base.specs.Configuration.{Configuration, space_of}
 use Rattle.mi_base.specs.History.{entered, updates_of}
 use Rattle.mi_tree.specs.Right.{Right}
 use Rattle.mi_tree.specs.Legal.{accepted, reach}
 use Rattle.mi_tree.specs.InTurn.{BeganAt}
+use Rattle.mi_tree.specs.Passing.{kth_distance, reached_objects}
 
 -- a log that went on
 pub record Grows (old new : List LogEvent) : Type 0 where
@@ -56,3 +57,8 @@ RanAlone c script yss log = ⊥
 abbrev pub Works : ℕ → Reply → ℕ → Type 0
 Works steps (Range p rows cells distances) steps' = steps' ≡ steps + distances
 Works steps y steps' = Unit {0}
+
+-- a query for the nearest takes at most one step for each pivot and for each live object of the cells that have to be opened for it
+abbrev pub WorksNearest : Configuration → List LogEvent → ℕ → List ℤ → ℕ → Reply → ℕ → Type 0
+WorksNearest c log count query steps (Nearest p rows cells) steps' = steps' ≤ steps + length c.pivots + reached_objects (space_of c) c.levels log query (kth_distance count rows)
+WorksNearest c log count query steps y steps' = Unit {0}

@@ -2,11 +2,13 @@
 ghost use Rattle.std.specs.Prelude.{◌≡◌, ◌≤◌, IsTrue, OnOk};
 ghost use Rattle.mi_plain.specs.Opening.{AreMeasured, offerings, spanned};
 ghost use Rattle.mi_plain.specs.Plain.{rekeyed};
+ghost use Rattle.mi_nearest.specs.Nearing.{Takes as TakesNearest};
 ghost use Rattle.mi_range.specs.Ranging.{Takes};
 
 use mi_base::{Id, NoMemory, Prefix, Steps, Vector};
 use mi_key::{Entry, Interval, Key, cluster_number};
 use mi_metric::Metric;
+use mi_nearest::NearestWork;
 use mi_perm::permutation;
 use mi_range::RangeWork;
 use std::collections::BTreeMap;
@@ -28,7 +30,7 @@ pub fn rekey(entry: &mut Entry, split: &Prefix, levels: u32)
     entry.key = Key::make(cluster, parts.distance, parts.id, parts.birth);
 }
 
-/// Offers a query the entries whose keys the span has.
+/// Offers a range query the entries whose keys the span has.
 pub fn offer_span<M: Metric, L: Ledger>(
     entries: &BTreeMap<Id, Entry>,
     span: &Interval,
@@ -40,6 +42,28 @@ pub fn offer_span<M: Metric, L: Ledger>(
     requires query { IsTrue ((M.space metric.now).fits query.now) }
     requires measured { AreMeasured (M.space metric.now) query.now work.old.dists entries.now.entries }
     ensures { OnOk result (Takes (M.space metric.now) query.now work.old steps.old (offerings (spanned span.now entries.now.entries)) work.new steps.new) }
+{
+    for (_, entry) in entries.iter() {
+        if span.has(&entry.key) {
+            work.room()?;
+            work.take(entry, metric, query, steps);
+        }
+    }
+    Ok(())
+}
+
+/// Offers a query for the nearest the entries whose keys the span has.
+pub fn offer_nearest<M: Metric, L: Ledger>(
+    entries: &BTreeMap<Id, Entry>,
+    span: &Interval,
+    work: &mut NearestWork,
+    metric: &M,
+    query: &Vector,
+    steps: &mut Steps<L>,
+) -> Result<(), NoMemory>
+    requires query { IsTrue ((M.space metric.now).fits query.now) }
+    requires measured { AreMeasured (M.space metric.now) query.now work.old.dists entries.now.entries }
+    ensures { OnOk result (TakesNearest (M.space metric.now) query.now work.old steps.old (offerings (spanned span.now entries.now.entries)) work.new steps.new) }
 {
     for (_, entry) in entries.iter() {
         if span.has(&entry.key) {

@@ -7,12 +7,12 @@ ghost use Rattle.mi_base.specs.Permutations.{distances, key_distance};
 ghost use Rattle.mi_base.specs.Sorting.{SameElements};
 ghost use Rattle.mi_board.specs.Actors.{actor_at, idle, released};
 ghost use Rattle.mi_board.specs.Boards.{HasRoom, MayCommit, MayInsert, crowded_at, grid_in, opened_board, with_actor, with_split};
-ghost use Rattle.mi_plain.specs.Answering.{Answers, GrowsBySplits, Keeps, Works};
+ghost use Rattle.mi_plain.specs.Answering.{Answers, GrowsBySplits, Keeps, Works, WorksNearest};
 ghost use Rattle.mi_plain.specs.Plain.{IsKept, NoClaims, work_left};
 ghost use Rattle.mi_tree.specs.Counting.{belongs, beginning, placed};
 ghost use Rattle.mi_tree.specs.Legal.{LegalLog, MayFollow, Settled, cells_of};
 
-use crate::entries::{offer_span, rekey};
+use crate::entries::{offer_nearest, offer_span, rekey};
 use mi_base::{
     Dists, Id, Log, LogEvent, NoMemory, Op, Perm, Position, Prefix, Reply, Settings, Steps, Update,
     Vector,
@@ -20,9 +20,10 @@ use mi_base::{
 use mi_board::Board;
 use mi_key::{Entry, Key, cluster_number};
 use mi_metric::Metric;
+use mi_nearest::{NearestWork, ranked};
 use mi_perm::{Pivots, key_distance, permutation};
 use mi_range::RangeWork;
-use mi_rules::{passes, span};
+use mi_rules::{near_span, passes, span};
 use mi_tree::{Leaf, LeafClaim, Leaves, Placed, ReserveRefusal, Work};
 use std::alloc::Global;
 use std::collections::BTreeMap;
@@ -218,6 +219,48 @@ impl Plain {
                     return Reply::Memory;
                 };
             }
+        }
+        work.finish(at, opened)
+    }
+
+    /// Answers a query for the nearest at the end of the log: the leaves are opened by their bounds, until the next one's is greater
+    /// than the distance of the last of `count` rows. The count is at most 1,000,000.
+    pub fn nearest<M: Metric, L: Ledger>(
+        &self,
+        alloc: Global,
+        metric: &M,
+        count: u32,
+        query: &Vector,
+        steps: &mut Steps<L>,
+    ) -> Reply
+        requires space { M.space metric.now ≡ metric_space self.now.settings }
+        requires fits { IsTrue ((metric_space self.now.settings).fits query.now) }
+        requires some { 1 ≤ count }
+        requires few { count ≤ 1000000 }
+        ensures answers { (op : ℕ) → Answers self.now.settings self.now.log SESSION op (Op.Nearest count query.now) result self.now.log }
+        ensures work { WorksNearest self.now.settings self.now.log count query.now steps.old result steps.new }
+    {
+        let at = self.end();
+        let dists = self.pivots.measure(metric, query, steps);
+        let catalog = self.board.catalog();
+        let Ok(ranks) = ranked(alloc, catalog, &dists) else {
+            return Reply::Memory;
+        };
+        let mut work = NearestWork::new(alloc, count, &dists);
+        let mut opened = 0;
+        for rank in ranks.iter() {
+            let worst = work.worst();
+            if worst.is_some_and(|worst| worst < rank.bound) {
+                break;
+            }
+            opened += 1;
+            let leaf = catalog.leaf(rank.place);
+            let Some(span) = near_span(leaf, &dists, worst, self.levels) else {
+                unreachable!();
+            };
+            let Ok(()) = offer_nearest(&self.entries, &span, &mut work, metric, query, steps) else {
+                return Reply::Memory;
+            };
         }
         work.finish(at, opened)
     }

@@ -2,7 +2,7 @@
 ghost use Rattle.std.specs.Prelude.{◌≡◌, ◌<◌, ◌≤◌, ◌||◌, [], IfOk, length, true, false};
 ghost use Rattle.std.specs.List.{list_any};
 ghost use Rattle.mi_base.specs.Configuration.{metric_space};
-ghost use Rattle.mi_base.specs.Scripts.{AreServed, IsOpOver, IsScriptOver, IsServed};
+ghost use Rattle.mi_base.specs.Scripts.{IsOpOver, IsScriptOver};
 ghost use Rattle.mi_plain.specs.Answering.{Answers, GrowsBySplits};
 ghost use Rattle.mi_plain.specs.Outcomes.{IsFinished, IsOutcomeOf, is_memory};
 ghost use Rattle.mi_tree.specs.Legal.{LegalLog, Settled};
@@ -27,7 +27,6 @@ fn answer<M: Metric, L: Ledger>(
 ) -> Reply
     requires space { M.space metric.now ≡ metric_space plain.old.settings }
     requires op { IsOpOver (metric_space plain.old.settings) op.now }
-    requires served { IsServed op.now }
     requires idle { NoClaims plain.old }
     ensures settings { plain.new.settings ≡ plain.old.settings }
     ensures idle { NoClaims plain.new }
@@ -37,7 +36,7 @@ fn answer<M: Metric, L: Ledger>(
         Op::Insert { id, vector } => plain.insert(alloc, metric, number, *id, vector, steps),
         Op::Delete { id } => plain.delete(number, *id),
         Op::Range { radius, query } => plain.range(alloc, metric, *radius, query, steps),
-        Op::Nearest { .. } => unreachable!(),
+        Op::Nearest { count, query } => plain.nearest(alloc, metric, *count, query, steps),
     }
 }
 
@@ -114,7 +113,6 @@ fn run_counted<M: Metric, L: Ledger>(
 ) -> Result<Outcome, NoMemory>
     requires space { M.space metric.now ≡ metric_space settings.now }
     requires script { IsScriptOver (metric_space settings.now) script.now }
-    requires served { AreServed script.now }
     ensures { IfOk result (IsOutcomeOf settings.now script.now) }
 {
     let mut plain = Plain::open(alloc, settings)?;
@@ -140,7 +138,6 @@ pub fn run_script<M: Metric>(
 ) -> Result<Outcome, NoMemory>
     requires space { M.space metric.now ≡ metric_space settings.now }
     requires script { IsScriptOver (metric_space settings.now) script.now }
-    requires served { AreServed script.now }
     ensures { IfOk result (IsOutcomeOf settings.now script.now) }
 {
     run_with::<M, Brand>(alloc, settings, metric, script, Blank::new(1))
@@ -159,7 +156,6 @@ fn run_with<M: Metric, L: Ledger>(
     requires some { 0 < blank.parts }
     requires space { M.space metric.now ≡ metric_space settings.now }
     requires script { IsScriptOver (metric_space settings.now) script.now }
-    requires served { AreServed script.now }
     ensures { IfOk result (IsOutcomeOf settings.now script.now) }
 {
     let mut steps = Steps::<L>::new(blank);

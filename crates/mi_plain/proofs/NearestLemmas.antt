@@ -1,0 +1,359 @@
+-- What a query for the nearest keeps of the leaves' entries is the scan.
+use Rattle.std.proofs.Common.{◌≡◌, ℕ, suc, zero, ℤ, ◌+◌, ◌<◌, ◌≤◌, ◌^◌, List, [], ◌∷◌, ◌++◌, map, length, Bool, true, false, cond, ◌&&◌, IsTrue, nat_le, refl, sym, ap, ◌∙◌, subst, arith, append_assoc, append-nil, length-append, Option, Some, None}
+use Rattle.std.specs.Prelude.{is_some, slice_get}
+use Rattle.std.specs.List.{AllByRecursion, filter, flat_map, sum_by}
+use Rattle.std.proofs.lemmas.Bool.{false≢true, leb-false, leb-true}
+use Rattle.std.proofs.lemmas.List.{length-map}
+use Rattle.std.proofs.lemmas.List.Elements.{recursion_from_All}
+use Rattle.std.proofs.lemmas.List.Sums.{sum_by-append, sum_by-cons}
+use Rattle.mi_base.specs.declared.records.LogEvent.{LogEvent}
+use Rattle.mi_base.specs.declared.records.Op.TheVariants as Op
+use Rattle.mi_base.specs.declared.records.Position.{Position}
+use Rattle.mi_base.specs.declared.records.Reply.TheVariants as Reply
+use Rattle.mi_base.specs.declared.records.Row.{Row}
+use Rattle.mi_base.specs.Configuration.{Configuration, IsWithinLimits, metric_space, space_of}
+use Rattle.mi_base.specs.History.{Object, end_of, entered, live, nearest_scan, row_of, updates_of}
+use Rattle.mi_base.specs.Permutations.{begins, distances, key_distance}
+use Rattle.mi_base.specs.Sorting.{SameElements}
+use Rattle.mi_base.specs.Space.{IsMetric}
+use Rattle.mi_base.proofs.SortingLemmas.{filter_keeps, same_filter, same_length, same_map, same_trans}
+use Rattle.mi_board.proofs.BoardLemmas.{is_grid}
+use Rattle.mi_key.specs.declared.entries.Entry.{Entry}
+use Rattle.mi_key.specs.declared.ranges.Interval.{Interval}
+use Rattle.mi_key.specs.Clusters.{cluster_of}
+use Rattle.mi_key.specs.Entries.{Offering, object_of}
+use Rattle.mi_key.specs.Keys.{parts_of}
+use Rattle.mi_key.specs.Ranges.{is_within}
+use Rattle.mi_key.proofs.ClusterLemmas.{cluster-exact}
+use Rattle.mi_nearest.specs.declared.order.Rank.{Rank}
+use Rattle.mi_nearest.specs.Order.{IsRanked, leaves_at}
+use Rattle.mi_nearest.specs.Nearing.{Nearing, Takes, first_rows, worst_of}
+use Rattle.mi_nearest.proofs.FirstLemmas.{first_of_same}
+use Rattle.mi_nearest.proofs.WalkLemmas.{NoNearer, StopsAt, Walked, all_at, far_out, same_flat, walk_ends}
+use Rattle.mi_rules.specs.Answers.{IsAnswer, MayHold}
+use Rattle.mi_rules.specs.Spans.{is_near}
+use Rattle.mi_rules.proofs.RuleLemmas.{answer_bound, answer_near, hull_near, near_cluster}
+use Rattle.mi_tree.specs.declared.outcomes.Leaf.{Leaf}
+use Rattle.mi_tree.specs.Cells.{depth, leaf_of, leaves}
+use Rattle.mi_tree.specs.Counting.{belongs, held, in_hull, leaf_with}
+use Rattle.mi_tree.specs.Legal.{LegalLog, cells_of}
+use Rattle.mi_tree.specs.Passing.{IsBound, kth_distance, reached, reached_objects}
+use Rattle.mi_tree.proofs.CatLemmas.{held_live}
+use Rattle.mi_tree.proofs.FitLemmas.{Fits, leaves_fit}
+use Rattle.mi_tree.proofs.LeafLemmas.{begins_take, one_leaf}
+use Rattle.mi_tree.proofs.LegalLemmas.{all_may}
+use Rattle.mi_tree.proofs.ListLemmas.{all_any, all_map, filter_map, map_twice}
+use Rattle.mi_plain.specs.Answering.{Answers}
+use Rattle.mi_plain.specs.Opening.{offerings, spanned}
+use Rattle.mi_plain.specs.Plain.{IsKept, grid_for, object_in}
+use Rattle.mi_plain.proofs.KeyLemmas.{distance_fits}
+use Rattle.mi_plain.proofs.RangeLemmas.{at_end, end_events, end_is, objects_offered}
+use Rattle.mi_plain.proofs.SpanLemmas.{Covered, all_covered, cluster_is, own_empty, own_fits}
+use Rattle.mi_plain.proofs.SummingLemmas.{one_passes, sum_both, sum_none, sum_same, weigh, weigh_one}
+
+-- the rows of the objects that belong to a leaf
+abbrev pub rows_in : Configuration → List ℤ → List (ℕ × Entry) → Leaf → List Row
+rows_in c query es leaf = map (row_of (metric_space c) query) (filter (belongs (grid_for c) leaf.prefix) (map object_in es))
+
+-- an entry belongs to a leaf
+abbrev pub owns : Configuration → ℕ × Entry → Leaf → Bool
+owns c e leaf = belongs (grid_for c) leaf.prefix (object_in e)
+
+rows_sum : (c : Configuration) (query : List ℤ) (f : Row → ℕ) (leaf : Leaf) (es : List (ℕ × Entry))
+    → sum_by f (rows_in c query es leaf) ≡ sum_by (λ e. cond (owns c e leaf) (f (row_of (metric_space c) query (object_in e))) 0) es
+rows_sum c query f leaf [] = refl
+rows_sum c query f leaf (e ∷ es) =
+    let row = row_of (metric_space c) query in
+    let h : ℕ × Entry → ℕ = λ x. cond (owns c x leaf) (f (row (object_in x))) 0 in
+    let T = belongs (grid_for c) leaf.prefix in
+    let P : Bool → Type 0 = λ b. sum_by f (map row (cond b (object_in e ∷ filter T (map object_in es)) (filter T (map object_in es)))) ≡ cond b (f (row (object_in e))) 0 + sum_by h es in
+    (elim (owns c e leaf) as P [
+      | true ↦ sum_by-cons f (row (object_in e)) (rows_in c query es leaf) ∙ ap (λ n. f (row (object_in e)) + n) (rows_sum c query f leaf es)
+      | false ↦ rows_sum c query f leaf es
+    ]) ∙ sym (sum_by-cons h e es)
+
+-- a sum over the rows of leaves has each entry as often as it belongs to one
+flat_rows_sum : (c : Configuration) (query : List ℤ) (f : Row → ℕ) (es : List (ℕ × Entry)) (ls : List Leaf)
+    → sum_by f (flat_map (rows_in c query es) ls) ≡ sum_by (λ e. weigh (owns c e) (f (row_of (metric_space c) query (object_in e))) ls) es
+flat_rows_sum c query f es [] = sym (sum_none es)
+flat_rows_sum c query f es (l ∷ ls) =
+    let row = row_of (metric_space c) query in
+    let here : ℕ × Entry → ℕ = λ e. cond (owns c e l) (f (row (object_in e))) 0 in
+    let later : ℕ × Entry → ℕ = λ e. weigh (owns c e) (f (row (object_in e))) ls in
+    sum_by-append f (rows_in c query es l) (flat_map (rows_in c query es) ls)
+    ∙ ap (λ n. n + sum_by f (flat_map (rows_in c query es) ls)) (rows_sum c query f l es)
+    ∙ ap (λ n. sum_by here es + n) (flat_rows_sum c query f es ls)
+    ∙ sym (sum_both here later es)
+
+mapped_sum : (c : Configuration) (query : List ℤ) (f : Row → ℕ) (es : List (ℕ × Entry))
+    → sum_by (λ e. f (row_of (metric_space c) query (object_in e))) es ≡ sum_by f (map (row_of (metric_space c) query) (map object_in es))
+mapped_sum c query f [] = refl
+mapped_sum c query f (e ∷ es) =
+    let row = row_of (metric_space c) query in
+    sum_by-cons (λ (x : ℕ × Entry). f (row (object_in x))) e es ∙ ap (λ n. f (row (object_in e)) + n) (mapped_sum c query f es)
+    ∙ sym (sum_by-cons f (row (object_in e)) (map row (map object_in es)))
+
+-- two tests in either order
+filter_swapped : {X : Type 0} (p q : X → Bool) (xs : List X) → filter p (filter q xs) ≡ filter q (filter p xs)
+filter_swapped p q [] = refl
+filter_swapped p q (x ∷ xs) =
+    let F = filter_swapped p q xs in
+    let P : Bool → Type 0 = λ a. p x ≡ a → filter p (filter q (x ∷ xs)) ≡ filter q (cond a (x ∷ filter p xs) (filter p xs)) in
+    let Q : Bool → Bool → Type 0 = λ a b. q x ≡ b → p x ≡ a → filter p (cond b (x ∷ filter q xs) (filter q xs)) ≡ filter q (cond a (x ∷ filter p xs) (filter p xs)) in
+    let inner : (a b : Bool) → Q a b = elim [
+      | true ↦ elim [ true ↦ λ e d. rw (d, e) (ap (λ ys. x ∷ ys) F) | false ↦ λ e d. rw e F ]
+      | false ↦ elim [ true ↦ λ e d. rw d F | false ↦ λ e d. F ]
+    ] in
+    (elim (p x) as P [ true ↦ λ d. inner true (q x) refl d | false ↦ λ d. inner false (q x) refl d ]) refl
+
+no_pivots : {X : Type 0} (xs : List X) → length xs ≡ 0 → xs ≡ []
+no_pivots [] h = refl
+no_pivots (x ∷ xs) h = absurd (omega arith)
+
+-- what stands at a place of a mapped list
+mapped_at : {X Y : Type 0} (f : X → Y) (xs : List X) (i : ℕ) (y : Y) → slice_get (map f xs) i ≡ Some y → (x : X) × ((slice_get xs i ≡ Some x) × (y ≡ f x))
+mapped_at f [] i y at = cc
+mapped_at f (x ∷ xs) zero y at = (x, (refl, (let same : f x ≡ y = cc in sym same)))
+mapped_at f (x ∷ xs) (suc i) y at = mapped_at f xs i y at
+
+module _ (c : Configuration) (limits : IsWithinLimits c) (log : List LogEvent) (legal : LegalLog c log) (query : List ℤ) (fits : IsTrue ((metric_space c).fits query)) (metric : IsMetric (metric_space c)) where
+  answer_at : (e : ℕ × Entry) → IsKept c log e.0 e.1 → (radius : ℕ) → (metric_space c).d query e.1.vector ≤ radius → IsAnswer (space_of c) query e.1.vector radius
+  answer_at e kept radius near = record { metric = metric; pivots_fit = limits.pivots; query_fits = fits; object_fits = kept.fits; near = near }
+
+  may_hold : (e : ℕ × Entry) → Covered c log e → (p : List ℕ) → belongs (grid_for c) p (object_in e) ≡ true → MayHold (leaf_with (grid_for c) (held (grid_for c) log) p) (distances (space_of c) e.1.vector)
+  may_hold e covered p b = record { begun = b; covered = covered p b }
+
+  none_nearer_in : (p : List ℕ) (bound : ℕ) → IsBound (distances (space_of c) query) (leaf_with (grid_for c) (held (grid_for c) log) p) (Some bound) → (es : List (ℕ × Entry)) → AllByRecursion (λ e. IsKept c log e.0 e.1) es
+      → AllByRecursion (Covered c log) es → AllByRecursion (λ row. bound ≤ row.distance) (rows_in c query es (leaf_with (grid_for c) (held (grid_for c) log) p))
+  none_nearer_in p bound b [] kept covered = tt
+  none_nearer_in p bound b (e ∷ es) kept covered =
+      let row = row_of (metric_space c) query in
+      let T = belongs (grid_for c) p in
+      let rest = none_nearer_in p bound b es kept.1 covered.1 in
+      let P : Bool → Type 0 = λ t. T (object_in e) ≡ t → AllByRecursion (λ (r : Row). bound ≤ r.distance) (map row (cond t (object_in e ∷ filter T (map object_in es)) (filter T (map object_in es)))) in
+      (elim (T (object_in e)) as P [
+        | true ↦ λ t. (answer_bound (space_of c) query e.1.vector ((metric_space c).d query e.1.vector) (answer_at e kept.0 ((metric_space c).d query e.1.vector) (omega arith))
+            (leaf_with (grid_for c) (held (grid_for c) log) p) (may_hold e covered.0 p t) bound b, rest)
+        | false ↦ λ t. rest
+      ]) refl
+
+  -- no object of a leaf is nearer than the leaf's bound
+  pub none_nearer_cells : (es : List (ℕ × Entry)) → AllByRecursion (λ e. IsKept c log e.0 e.1) es → SameElements (map object_in es) (live (updates_of log))
+      → AllByRecursion (NoNearer (distances (space_of c) query) (rows_in c query es)) (cells_of c log)
+  none_nearer_cells es kept same =
+      let g = grid_for c in
+      let N = NoNearer (distances (space_of c) query) (rows_in c query es) in
+      all_map (leaf_with g (held g log)) N (leaves g log)
+      (all_any (λ (p : List ℕ). N (leaf_with g (held g log) p)) (λ p bound b. none_nearer_in p bound b es kept (all_covered c log es same)) (leaves g log))
+
+  -- an entry belongs to one leaf that has a hull
+  one_owner : (e : ℕ × Entry) → Covered c log e → filter (owns c e) (filter (λ l. is_some l.hull) (cells_of c log)) ≡ leaf_with (grid_for c) (held (grid_for c) log) (leaf_of (grid_for c) log ((grid_for c).perm e.1.vector)) ∷ []
+  one_owner e covered =
+      let g = grid_for c in
+      let ok = is_grid c limits log legal in
+      let perm = g.perm e.1.vector in
+      let own = leaf_of g log perm in
+      let leaf = leaf_with g (held g log) own in
+      let one : filter (owns c e) (cells_of c log) ≡ leaf ∷ [] =
+      sym (filter_map (leaf_with g (held g log)) (owns c e) (leaves g log)) ∙ ap (map (leaf_with g (held g log))) (one_leaf g perm (ok.perms e.1.vector).0 (ok.perms e.1.vector).1 ok log (all_may c log legal)) in
+      let inside = covered own (begins_take (depth g log perm) perm) in
+      let P : Option (ℕ × ℕ) → Type 0 = λ h. in_hull (g.distance e.1.vector) h ≡ true → is_some h ≡ true in
+      let go : (h : Option (ℕ × ℕ)) → P h = elim [ None ↦ λ i. absurd (false≢true i) | Some h ↦ λ i. refl ] in
+      let some : is_some leaf.hull ≡ true = go leaf.hull inside in
+      filter_swapped (owns c e) (λ (l : Leaf). is_some l.hull) (cells_of c log) ∙ ap (filter (λ (l : Leaf). is_some l.hull)) one ∙ ap (λ b. cond b (leaf ∷ []) []) some
+
+  all_owned : (f : Row → ℕ) (es : List (ℕ × Entry)) → AllByRecursion (Covered c log) es
+      → AllByRecursion (λ e. weigh (owns c e) (f (row_of (metric_space c) query (object_in e))) (filter (λ l. is_some l.hull) (cells_of c log)) ≡ f (row_of (metric_space c) query (object_in e))) es
+  all_owned f [] covered = tt
+  all_owned f (e ∷ es) covered =
+      (weigh_one (owns c e) (f (row_of (metric_space c) query (object_in e))) _ (filter (λ (l : Leaf). is_some l.hull) (cells_of c log)) (one_owner e covered.0), all_owned f es covered.1)
+
+  -- the rows of the leaves are those of all live objects
+  pub all_rows : (es : List (ℕ × Entry)) → SameElements (map object_in es) (live (updates_of log))
+      → SameElements (flat_map (rows_in c query es) (filter (λ l. is_some l.hull) (cells_of c log))) (map (row_of (metric_space c) query) (live (updates_of log)))
+  all_rows es same =
+      let row = row_of (metric_space c) query in
+      let cells = filter (λ (l : Leaf). is_some l.hull) (cells_of c log) in
+      let once : SameElements (flat_map (rows_in c query es) cells) (map row (map object_in es)) = record { sums = λ f.
+      flat_rows_sum c query f es cells
+      ∙ sum_same (λ (e : ℕ × Entry). weigh (owns c e) (f (row (object_in e))) cells) (λ (e : ℕ × Entry). f (row (object_in e))) es (all_owned f es (all_covered c log es same)) ∙ mapped_sum c query f es } in
+      same_trans once (same_map row (map object_in es) (live (updates_of log)) same)
+
+  -- a leaf counts the rows of its objects
+  pub rows_counted : (es : List (ℕ × Entry)) → SameElements (map object_in es) (live (updates_of log)) → (p : List ℕ)
+      → length (rows_in c query es (leaf_with (grid_for c) (held (grid_for c) log) p)) ≡ (leaf_with (grid_for c) (held (grid_for c) log) p).count
+  rows_counted es same p =
+      let g = grid_for c in
+      let T = belongs g p in
+      length-map (filter T (map object_in es)) (row_of (metric_space c) query) ∙ same_length (filter T (map object_in es)) (filter T (live (updates_of log))) (same_filter T (map object_in es) (live (updates_of log)) same)
+      ∙ ap (λ (os : List Object). length (filter T os)) (sym (held_live g log))
+
+  -- what is read of a leaf belongs to it
+  read_belongs : (e : ℕ × Entry) → IsKept c log e.0 e.1 → (p : List ℕ) → Fits (length c.pivots) c.levels p → (worst : Option ℕ) (hull : ℕ × ℕ)
+      → is_near (distances (space_of c) query) worst c.levels p hull (parts_of e.1.key) ≡ true → belongs (grid_for c) p (object_in e) ≡ true
+  read_belongs e kept p fit worst hull near =
+      let g = grid_for c in
+      let n = length c.pivots in
+      let dq = distances (space_of c) query in
+      let perm = g.perm e.1.vector in
+      let mine = own_fits c limits log legal query 0 e kept in
+      let long : length dq ≡ n = length-map c.pivots (λ (x : List ℤ). (metric_space c).d query x) in
+      let numbers : cluster_of n c.levels (leaf_of g log perm) ≡ cluster_of n c.levels p =
+      sym (cluster_is c limits log legal query 0 e kept) ∙ near_cluster dq worst c.levels p hull (parts_of e.1.key) near ∙ ap (λ (k : ℕ). cluster_of k c.levels p) long in
+      subst (λ (x : List ℕ). begins x perm ≡ true) (cluster-exact n c.levels (leaf_of g log perm) p mine.0 fit.0 mine.1 fit.1 numbers) (begins_take (depth g log perm) perm)
+
+  -- what is known of a cell's prefix: it fits the settings, and begins no permutations but those whose leaf it is
+  pub record IsCell (p : List ℕ) : Type 0 where
+    pub fit : Fits (length c.pivots) c.levels p
+    pub only : (v : List ℤ) → begins p ((grid_for c).perm v) ≡ true → p ≡ leaf_of (grid_for c) log ((grid_for c).perm v)
+
+  -- what isn't read of it is farther than the last row
+  unread_far : (e : ℕ × Entry) → IsKept c log e.0 e.1 → Covered c log e → (p : List ℕ) → IsCell p → (hull : ℕ × ℕ) → (leaf_with (grid_for c) (held (grid_for c) log) p).hull ≡ Some hull → (worst : Option ℕ)
+      → belongs (grid_for c) p (object_in e) ≡ true → is_near (distances (space_of c) query) worst c.levels p hull (parts_of e.1.key) ≡ false → StopsAt worst ((metric_space c).d query e.1.vector)
+  unread_far e kept covered p cell hull has worst b out =
+      let g = grid_for c in
+      let n = length c.pivots in
+      let dq = distances (space_of c) query in
+      let dists = distances (space_of c) e.1.vector in
+      let leaf = leaf_with g (held g log) p in
+      let parts = parts_of e.1.key in
+      let d = (metric_space c).d query e.1.vector in
+      let mine = cell.only e.1.vector b in
+      let long : length dq ≡ n = length-map c.pivots (λ (x : List ℤ). (metric_space c).d query x) in
+      let cluster : parts.cluster ≡ cluster_of n c.levels p = cluster_is c limits log legal query 0 e kept ∙ ap (cluster_of n c.levels) (sym mine) in
+      let empty : p ≡ [] → c.pivots ≡ [] = λ none. no_pivots c.pivots (own_empty c limits log legal query 0 e kept (sym mine ∙ none)) in
+      let inside : in_hull parts.distance (Some hull) ≡ true = ap (λ (x : ℕ). in_hull x (Some hull)) kept.distance_is ∙ ap (in_hull (g.distance e.1.vector)) (sym has) ∙ covered p b in
+      let P : Option ℕ → Type 0 = λ w. is_near dq w c.levels p hull parts ≡ false → StopsAt w d in
+      let go : (w : Option ℕ) → P w = elim [
+        | None ↦ λ o. absurd (false≢true (sym o ∙ hull_near dq c.levels p hull parts (cluster ∙ ap (λ (k : ℕ). cluster_of k c.levels p) (sym long)) (distance_fits e.1.key) inside))
+        | Some w ↦ λ o.
+            let Q : Bool → Type 0 = λ t. nat_le d w ≡ t → w < d in
+            (elim (nat_le d w) as Q [
+              | true ↦ λ t. absurd (false≢true (sym o ∙ answer_near (space_of c) query e.1.vector w (answer_at e kept w (leb-true d w t)) leaf (may_hold e covered p b) empty hull has c.levels parts cluster kept.distance_is))
+              | false ↦ λ t. leb-false d w t
+            ]) refl
+      ] in
+      go worst out
+
+  -- the rows of a leaf are those of what is read of it, and others that are farther than the last row
+  pub record Parts (worst : Option ℕ) (rows read : List Row) : Type 0 where
+    pub far : List Row
+    pub same : SameElements rows (far ++ read)
+    pub all_far : AllByRecursion (λ row. StopsAt worst row.distance) far
+
+  read_parts : (p : List ℕ) → IsCell p → (hull : ℕ × ℕ) → (leaf_with (grid_for c) (held (grid_for c) log) p).hull ≡ Some hull → (worst : Option ℕ) (span : Interval)
+      → ((key : ℕ) → is_within span key ≡ is_near (distances (space_of c) query) worst c.levels p hull (parts_of key))
+      → (es : List (ℕ × Entry)) → AllByRecursion (λ e. IsKept c log e.0 e.1) es → AllByRecursion (Covered c log) es
+      → Parts worst (rows_in c query es (leaf_with (grid_for c) (held (grid_for c) log) p)) (map (row_of (metric_space c) query) (map object_in (spanned span es)))
+  read_parts p cell hull has worst span within [] kept covered = record { far = []; same = record { sums = λ f. refl }; all_far = tt }
+  read_parts p cell hull has worst span within (e ∷ es) kept covered =
+      let row = row_of (metric_space c) query in
+      let T = belongs (grid_for c) p in
+      let o = object_in e in
+      let F = filter T (map object_in es) in
+      let sp = spanned span es in
+      let S = map row (map object_in sp) in
+      let ih = read_parts p cell hull has worst span within es kept.1 covered.1 in
+      let Q : Bool → Bool → Type 0 = λ a b. T o ≡ a → is_within span e.1.key ≡ b → Parts worst (map row (cond a (o ∷ F) F)) (map row (map object_in (cond b (e ∷ sp) sp))) in
+      let go : (a b : Bool) → Q a b = elim [
+        | true ↦ elim [
+            | true ↦ λ t u. record {
+                far = ih.far;
+                same = record { sums = λ f. omega (arith, sum_by-cons f (row o) (map row F), ih.same.sums f, sum_by-append f ih.far (row o ∷ S), sum_by-cons f (row o) S, sum_by-append f ih.far S) };
+                all_far = ih.all_far;
+              }
+            | false ↦ λ t u. record {
+                far = row o ∷ ih.far;
+                same = record { sums = λ f. omega (arith, sum_by-cons f (row o) (map row F), ih.same.sums f, sum_by-cons f (row o) (ih.far ++ S)) };
+                all_far = (unread_far e kept.0 covered.0 p cell hull has worst t (sym (within e.1.key) ∙ u), ih.all_far);
+              }
+          ]
+        | false ↦ elim [
+            | true ↦ λ t u. absurd (false≢true (sym t ∙ read_belongs e kept.0 p cell.fit worst hull (sym (within e.1.key) ∙ u)))
+            | false ↦ λ t u. ih
+          ]
+      ] in
+      go (T o) (is_within span e.1.key) refl refl
+
+  -- the rows of what is offered are those of the entries' objects
+  offered_rows : (es : List (ℕ × Entry)) → AllByRecursion (λ e. IsKept c log e.0 e.1) es
+      → map (λ o. row_of (metric_space c) query o.object) (offerings es) ≡ map (row_of (metric_space c) query) (map object_in es)
+  offered_rows es kept =
+      let row = row_of (metric_space c) query in
+      sym (map_twice row (λ (o : Offering). o.object) (offerings es)) ∙ ap (map row) (objects_offered c log es kept)
+
+  -- an opened leaf: the rows are the first ones of those before and of all the leaf's, and no more steps were taken than it has objects
+  pub opened_leaf : (es : List (ℕ × Entry)) → AllByRecursion (λ e. IsKept c log e.0 e.1) es → SameElements (map object_in es) (live (updates_of log))
+      → (p : List ℕ) → IsCell p → (hull : ℕ × ℕ) → (leaf_with (grid_for c) (held (grid_for c) log) p).hull ≡ Some hull → (span : Interval) (w v : Nearing) (n k : ℕ)
+      → ((key : ℕ) → is_within span key ≡ is_near (distances (space_of c) query) (worst_of w) c.levels p hull (parts_of key))
+      → Takes (metric_space c) query w n (offerings (spanned span es)) v k → (before : List Row) → w.rows ≡ first_rows w.count before
+      → (v.rows ≡ first_rows w.count (before ++ rows_in c query es (leaf_with (grid_for c) (held (grid_for c) log) p))) × (k ≤ n + (leaf_with (grid_for c) (held (grid_for c) log) p).count)
+  opened_leaf es kept same p cell hull has span w v n k within takes before e =
+      let g = grid_for c in
+      let row = row_of (metric_space c) query in
+      let leaf = leaf_with g (held g log) p in
+      let rows = rows_in c query es leaf in
+      let sp = spanned span es in
+      let S = map row (map object_in sp) in
+      let parts = read_parts p cell hull has (worst_of w) span within es kept (all_covered c log es same) in
+      let offered : map (λ (o : Offering). row o.object) (offerings sp) ≡ S = offered_rows sp (filter_keeps (λ (x : ℕ × Entry). IsKept c log x.0 x.1) (λ (x : ℕ × Entry). is_within span x.1.key) es kept) in
+      let more : SameElements ((before ++ parts.far) ++ S) (before ++ rows) = record { sums = λ f.
+      omega (arith, sum_by-append f (before ++ parts.far) S, sum_by-append f before parts.far, sum_by-append f before rows, parts.same.sums f, sum_by-append f parts.far S) } in
+      let size = same_length rows (parts.far ++ S) parts.same in
+      let many : length S ≡ length (offerings sp) = ap length (sym offered) ∙ length-map (offerings sp) (λ (o : Offering). row o.object) in
+      (
+        takes.rows_are (before ++ parts.far) (far_out w.count w.rows before parts.far e parts.all_far) ∙ ap (λ (xs : List Row). first_rows w.count ((before ++ parts.far) ++ xs)) offered
+        ∙ first_of_same w.count ((before ++ parts.far) ++ S) (before ++ rows) more,
+        omega (arith, takes.ticks, many, size, length-append parts.far S, rows_counted es same p),
+      )
+
+  -- the cell at a place
+  pub cell_at : (i : ℕ) (leaf : Leaf) → slice_get (cells_of c log) i ≡ Some leaf → (p : List ℕ) × ((leaf ≡ leaf_with (grid_for c) (held (grid_for c) log) p) × IsCell p)
+  cell_at i leaf at =
+      let g = grid_for c in
+      let ok = is_grid c limits log legal in
+      let may = all_may c log legal in
+      let F = Fits (length c.pivots) c.levels in
+      let found = mapped_at (leaf_with g (held g log)) (leaves g log) i leaf at in
+      (found.0, (found.1.1, record {
+        fit = all_at F (leaves g log) i found.0 (recursion_from_All F (leaves g log) (leaves_fit g ok log may)) found.1.0;
+        only = λ v.
+            let perm = g.perm v in
+            let own = leaf_of g log perm in
+            let O : List ℕ → Type 0 = λ q. begins q perm ≡ true → q ≡ own in
+            all_at O (leaves g log) i found.0 (one_passes (λ (q : List ℕ). begins q perm) own (leaves g log) (one_leaf g perm (ok.perms v).0 (ok.perms v).1 ok log may)) found.1.0;
+      }))
+
+  -- a walk that has ended has the answer, and took no more steps than the leaves that had to be opened have objects
+  pub nearest_answered : (es : List (ℕ × Entry)) → AllByRecursion (λ e. IsKept c log e.0 e.1) es → SameElements (map object_in es) (live (updates_of log)) → (count : ℕ) (ranks done rest : List Rank) (rows : List Row)
+      → IsRanked (distances (space_of c) query) (cells_of c log) ranks → ranks ≡ done ++ rest → Walked count (cells_of c log) (rows_in c query es) done rows
+      → AllByRecursion (λ r. StopsAt (kth_distance count rows) r.bound) rest
+      → (op : ℕ) (at : Position) (opened steps : ℕ) → at ≡ end_of log → opened ≡ sum_by (λ (l : Leaf). 1) (leaves_at (cells_of c log) done) → steps ≤ sum_by (λ (l : Leaf). l.count) (leaves_at (cells_of c log) done)
+      → Answers c log 0 op (Op.Nearest count query) (Reply.Nearest at rows opened) log × (steps ≤ reached_objects (space_of c) c.levels log query (kth_distance count rows))
+  nearest_answered es kept same count ranks done rest rows ranked parts walked stops op at opened steps at_is opened_is few =
+      let cells = cells_of c log in
+      let dq = distances (space_of c) query in
+      let row = row_of (metric_space c) query in
+      let worst = kth_distance count rows in
+      let all = map row (live (updates_of log)) in
+      let whole = at_end log in
+      let ended = walk_ends dq count cells (rows_in c query es) ranks done rest rows ranked parts (none_nearer_cells es kept same) stops walked in
+      let scanned : rows ≡ nearest_scan (metric_space c) (updates_of log) query count =
+      ended.rows_are ∙ first_of_same count (flat_map (rows_in c query es) (leaves_at cells ranks)) all
+      (same_trans (same_flat (rows_in c query es) (leaves_at cells ranks) (filter (λ (l : Leaf). is_some l.hull) cells) ranked.all) (all_rows es same)) in
+      let counted : opened ≡ reached (space_of c) c.levels log query worst = opened_is ∙ sym (ended.sums (λ (l : Leaf). 1)) in
+      let P : Position → Type 0 = λ p. Answers c log 0 op (Op.Nearest count query) (Reply.Nearest p rows opened) log in
+      (
+        subst P (sym at_is) (record {
+          grows = record { by = []; is = sym (append-nil log) };
+          enters = sym (append-nil (entered log));
+          right = record {
+            position = end_is log;
+            rows_are = scanned ∙ ap (λ (l : List LogEvent). nearest_scan (metric_space c) (updates_of l) query count) (sym whole);
+            cells_are = counted ∙ ap (λ (l : List LogEvent). reached (space_of c) c.levels l query worst) (sym whole);
+          };
+          began = refl;
+          tells = (omega (arith, end_events log), omega (arith, end_events log));
+        }),
+        omega (arith, few, ended.sums (λ (l : Leaf). l.count)),
+      )

@@ -1,0 +1,23 @@
+use Rattle.std.proofs.Common.{◌≡◌, ◌+◌, ◌≤◌, ◌++◌, List}
+use Rattle.std.specs.List.{sum_by}
+use Rattle.mi_tree.specs.declared.outcomes.Leaf.{Leaf}
+use Rattle.mi_tree.specs.Legal.{cells_of}
+use Rattle.mi_nearest.specs.declared.order.Rank.{Rank}
+use Rattle.mi_nearest.specs.Order.{leaves_at}
+use Rattle.mi_nearest.proofs.WalkLemmas.{Walked}
+use Rattle.mi_plain.proofs.NearestLemmas.{rows_in}
+use Rattle.mi_plain.proofs.plain.Plain.nearest.Given as goal
+
+-- the leaves so far were opened and counted, and the rows are the first ones of theirs
+abbrev pub invariant-loop-rank : goal.invariant-loop-rank
+invariant-loop-rank g l =
+    let cells = cells_of l.self.settings l.self.log in
+    record {
+      done : List Rank;
+      parts : l.ranks.items ≡ done ++ l.rank-iterator;
+      walked : Walked l.count cells (rows_in l.self.settings l.query l.entries.entries) done l.work.rows;
+      same_dists : l.work.dists ≡ l.initial.work.dists;
+      same_count : l.work.count ≡ l.initial.work.count;
+      counted : l.opened ≡ sum_by (λ (leaf : Leaf). 1) (leaves_at cells done);
+      ticks : l.steps ≤ l.initial.steps + sum_by (λ (leaf : Leaf). leaf.count) (leaves_at cells done);
+    }
