@@ -23,6 +23,7 @@ impl Model for Id {
 }
 
 impl Id {
+    /// The identifier of this number.
     pub fn new(value: u64) -> Result<Id, OutOfRange>
         ensures ok { IfOk result (λ id. (id ≡ value) × (value < 2 ^ 40)) }
         ensures err { IfErr result (λ refusal. (refusal.value ≡ value) × (2 ^ 40 ≤ value)) }
@@ -34,6 +35,7 @@ impl Id {
         }
     }
 
+    /// The number.
     pub fn get(&self) -> u64
         ensures same { result ≡ self.now }
         ensures small { result < 2 ^ 40 }

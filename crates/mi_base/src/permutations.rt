@@ -42,18 +42,21 @@ impl Perm {
         Some(Perm { numbers })
     }
 
+    /// How many pivots there are, at most 32.
     pub fn len(&self) -> usize
         ensures { result ≡ length self.now }
     {
         self.numbers.len()
     }
 
+    /// There are no pivots.
     pub fn is_empty(&self) -> bool
         ensures { result ≡ (length self.now == 0) }
     {
         self.numbers.is_empty()
     }
 
+    /// The number of the pivot at a place, from 0.
     pub fn at(&self, place: usize) -> u8
         requires { place < length self.now }
         ensures { slice_get self.now place ≡ Some result }
@@ -61,6 +64,7 @@ impl Perm {
         self.numbers[place]
     }
 
+    /// The numbers of the pivots in their order.
     pub fn as_slice(&self) -> &[u8]
         ensures same { result.now ≡ self.now }
         ensures permutation { IsTrue (is_permutation self.now) }

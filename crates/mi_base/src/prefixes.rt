@@ -72,18 +72,21 @@ impl Prefix {
         perm.as_slice().starts_with(self.as_slice())
     }
 
+    /// How many pivots there are, at most 6.
     pub fn len(&self) -> usize
         ensures { result ≡ length self.now }
     {
         self.pivots.len()
     }
 
+    /// There are no pivots.
     pub fn is_empty(&self) -> bool
         ensures { result ≡ (length self.now == 0) }
     {
         self.pivots.is_empty()
     }
 
+    /// The number of the pivot at a place, from 0.
     pub fn at(&self, place: usize) -> u8
         requires { place < length self.now }
         ensures { slice_get self.now place ≡ Some result }
@@ -91,6 +94,7 @@ impl Prefix {
         self.pivots[place]
     }
 
+    /// The numbers of the pivots in their order.
     pub fn as_slice(&self) -> &[u8]
         ensures same { result.now ≡ self.now }
         ensures prefix { IsTrue (is_prefix self.now) }

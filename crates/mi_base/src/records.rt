@@ -25,14 +25,18 @@ pub enum LogEvent {
 /// Names the prefix of the log with so many updates and splits.
 #[derive(Clone, Copy, Debug, PartialEq, Eq)]
 pub struct Position {
+    /// How many updates.
     pub updates: u32,
+    /// How many splits.
     pub splits: u32,
 }
 
 /// A row of an answer. Rows are ordered by distance, then identifier.
 #[derive(Clone, Copy, Debug, PartialEq, Eq, PartialOrd, Ord)]
 pub struct Row {
+    /// The distance from the query.
     pub distance: u32,
+    /// The object.
     pub id: Id,
 }
 
@@ -99,6 +103,8 @@ pub enum Take {
 /// One record of a schedule.
 #[derive(Clone, Copy, Debug, PartialEq, Eq)]
 pub struct ScheduleItem {
+    /// Who takes the turns.
     pub actor: Actor,
+    /// How much that actor is given.
     pub take: Take,
 }

@@ -1,5 +1,4 @@
 //! Why a value was not made.
-ghost use Rattle.std.specs.Prelude.{◌≡◌};
 
 use std::alloc::{AllocError, AllocFailed};
 
@@ -22,6 +21,7 @@ impl<T: Drop> From<AllocFailed<T>> for NoMemory {
 /// The number lies above the greatest identifier.
 #[derive(Clone, Copy, Debug, PartialEq, Eq)]
 pub struct OutOfRange {
+    /// The number, 2^40 or more.
     pub value: u64,
 }
 

@@ -1,5 +1,4 @@
 //! What an index is opened with.
-ghost use Rattle.std.specs.Prelude.{◌≡◌};
 
 use crate::{TableRows, VectorList};
 use std::marker::Model;
@@ -16,11 +15,13 @@ pub enum MetricKind {
 /// The settings, each within its bounds.
 #[derive(Drop)]
 pub struct Settings {
+    /// The metric by name.
     pub metric: MetricKind,
     /// Coordinates a vector.
     pub dims: u32,
     /// The table's rows, and none under another metric.
     pub rows: TableRows,
+    /// The pivots in the order of their numbers.
     pub pivots: VectorList,
     /// The greatest length of a cell's prefix.
     pub levels: u32,

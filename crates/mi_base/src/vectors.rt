@@ -1,5 +1,5 @@
 //! Vectors of whole numbers.
-ghost use Rattle.std.specs.Prelude.{◌≡◌, ◌<◌, ◌≤◌, ◌↔◌, Some, length, IfOk, IfErr, slice_get};
+ghost use Rattle.std.specs.Prelude.{◌≡◌, ◌<◌, Some, length, IfOk, IfErr, slice_get};
 ghost use Rattle.mi_base.specs.Vectors.{IsRefused, IsVector};
 
 use crate::VectorRefusal;
@@ -46,12 +46,14 @@ impl Vector {
         Ok(Vector { coordinates })
     }
 
+    /// How many coordinates there are, from 1 to 64.
     pub fn len(&self) -> usize
         ensures { result ≡ length self.now }
     {
         self.coordinates.len()
     }
 
+    /// The coordinate at a place, from 0.
     pub fn at(&self, place: usize) -> i32
         requires { place < length self.now }
         ensures { slice_get self.now place ≡ Some result }
@@ -59,6 +61,7 @@ impl Vector {
         self.coordinates[place]
     }
 
+    /// The coordinates in their order.
     pub fn as_slice(&self) -> &[i32]
         ensures same { result.now ≡ self.now }
         ensures vector { IsVector self.now }

@@ -1,13 +1,12 @@
 //! The conditions of a board's calls, tried by reading its log and its cells.
-ghost use Rattle.std.specs.Prelude.{◌≡◌, ◌<◌, ◌==◌, IfOk, OnOk, IsTrue, None, length, map};
+ghost use Rattle.std.specs.Prelude.{◌≡◌, ◌<◌, ◌==◌, IfOk, OnOk, IsTrue, map};
 ghost use Rattle.std.specs.List.{AllByRecursion, filter, list_any};
 ghost use Rattle.mi_base.specs.Configuration.{metric_space};
-ghost use Rattle.mi_base.specs.History.{TheOne, is_live, live, live_after, updates_of};
+ghost use Rattle.mi_base.specs.History.{live, live_after, updates_of};
 ghost use Rattle.mi_base.specs.Permutations.{distances, key_distance, permutation_of};
 ghost use Rattle.mi_base.specs.Space.{l1_metric};
 ghost use Rattle.mi_base.specs.declared.records.LogEvent.TheVariants.{Split};
-ghost use Rattle.mi_board.specs.Actors.{actor_at};
-ghost use Rattle.mi_board.specs.Boards.{MayCommit, MayDelete, MayInsert, grid_in};
+ghost use Rattle.mi_board.specs.Boards.{MayCommit, grid_in};
 ghost use Rattle.mi_tree.specs.Counting.{belongs, placed};
 ghost use Rattle.mi_tree.specs.Legal.{MayFollow};
 

@@ -1,5 +1,5 @@
 //! Fields as numbers.
-ghost use Rattle.std.specs.Prelude.{◌≡◌, ◌<◌, ◌≤◌, ◌^◌, ◌≤ℤ◌, pos, IfSome, IfOk};
+ghost use Rattle.std.specs.Prelude.{◌≡◌, ◌<◌, ◌≤◌, ◌^◌, ◌≤ℤ◌, IfSome, IfOk};
 ghost use Rattle.mi_input.specs.Numbers.{bounded, count_in, natural_in, number_in, whole_in};
 
 use crate::faults::Reason;

@@ -1,5 +1,5 @@
 //! The records of a file, one at a time.
-ghost use Rattle.std.specs.Prelude.{◌≡◌, ◌+◌, ◌<◌, ◌^◌, ◌∷◌, [], length, drop, IfOk, IfErr, OnOk, IfSome, IfNone, true};
+ghost use Rattle.std.specs.Prelude.{◌≡◌, ◌+◌, ◌<◌, ◌^◌, ◌∷◌, [], drop, IfOk, IfErr, OnOk, IfSome, IfNone, true};
 ghost use Rattle.csv.specs.Records.{fields_of};
 ghost use Rattle.csv.specs.Reading.{Ready, took_first};
 ghost use Rattle.mi_input.specs.Records.{IsBetweenRecords, after, first_of, next_begins, records_at, records_of, start};

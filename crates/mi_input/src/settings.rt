@@ -1,5 +1,5 @@
 //! Settings.
-ghost use Rattle.std.specs.Prelude.{◌≡◌, ◌+◌, ◌<◌, ◌≤◌, codes, Ok, IfOk, IfErr, OnOk};
+ghost use Rattle.std.specs.Prelude.{◌≡◌, ◌+◌, ◌<◌, ◌≤◌, Ok, IfOk, IfErr, OnOk};
 ghost use Rattle.csv.specs.Records.{fields_of};
 ghost use Rattle.mi_base.specs.Configuration.{IsDepth};
 ghost use Rattle.mi_input.specs.Faults.{Gives, IsFaultOf};

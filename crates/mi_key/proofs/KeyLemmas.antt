@@ -31,10 +31,6 @@ pub key_of-parts_of : (key : ℕ) → key_of (parts_of key) ≡ key
 unfolding key_of parts_of
 key_of-parts_of key = omega arith
 
-pub fit-parts_of : (key : ℕ) → key < 2 ^ 128 → FitKey (parts_of key)
-unfolding parts_of
-fit-parts_of key h = record { fit_cluster = omega arith; fit_distance = omega arith; fit_id = omega arith; fit_birth = omega arith }
-
 -- the parts, cut off one by one
 pub parts-in_turn : (key : ℕ) → made_of (key / 2 ^ 30 / 2 ^ 40 / 2 ^ 27) (key / 2 ^ 30 / 2 ^ 40 % 2 ^ 27) (key / 2 ^ 30 % 2 ^ 40) (key % 2 ^ 30) ≡ parts_of key
 unfolding parts_of
@@ -68,11 +64,6 @@ cmp-parts a b =
     ∙ ap (nat_cmp (((a / 2 ^ 97 * 2 ^ 27 + a / 2 ^ 70 % 2 ^ 27) * 2 ^ 40 + a / 2 ^ 30 % 2 ^ 40) * 2 ^ 30 + a % 2 ^ 30)) (nested b)
     ∙ cmp-made (a / 2 ^ 97) (a / 2 ^ 70 % 2 ^ 27) (a / 2 ^ 30 % 2 ^ 40) (a % 2 ^ 30) (b / 2 ^ 97) (b / 2 ^ 70 % 2 ^ 27) (b / 2 ^ 30 % 2 ^ 40) (b % 2 ^ 30)
     (omega arith) (omega arith) (omega arith) (omega arith) (omega arith) (omega arith)
-
--- the clusters of ascending keys ascend
-pub clusters-ascend : (a b : ℕ) → a ≤ b → (parts_of a).cluster ≤ (parts_of b).cluster
-unfolding parts_of
-clusters-ascend a b h = omega arith
 
 between : (c lo hi k d r : ℕ) → hi < 2 ^ 27 → lo ≤ hi → d < 2 ^ 27 → r < 2 ^ 70
     → (nat_le (c * 2 ^ 97 + lo * 2 ^ 70) (k * 2 ^ 97 + d * 2 ^ 70 + r) && nat_le (k * 2 ^ 97 + d * 2 ^ 70 + r) (c * 2 ^ 97 + hi * 2 ^ 70 + (2 ^ 70 - 1)))

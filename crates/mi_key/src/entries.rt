@@ -9,10 +9,15 @@ use mi_base::{Dists, NoMemory, Vector};
 /// An object under its key, with its distances to the pivots, the number of its insert, and that of its delete.
 #[derive(Drop)]
 pub struct Entry {
+    /// The key that the entry stands under.
     pub key: Key,
+    /// The object's vector.
     pub vector: Vector,
+    /// The distances to the pivots, in the order of their numbers.
     pub dists: Dists,
+    /// The number of the insert among the updates, from 1.
     pub birth: u32,
+    /// The number of the delete among the updates, if there was one.
     pub death: Option<u32>,
 }
 

@@ -35,13 +35,18 @@ impl Model for Key {
 /// 2^30.
 #[derive(Clone, Copy, Debug, PartialEq, Eq, PartialOrd, Ord)]
 pub struct KeyParts {
+    /// The number of the object's cluster.
     pub cluster: u32,
+    /// The key distance.
     pub distance: u32,
+    /// The object.
     pub id: Id,
+    /// The number of the insert among the updates, from 1.
     pub birth: u32,
 }
 
 impl Key {
+    /// The key of these parts.
     pub fn make(cluster: u32, distance: u32, id: Id, birth: u32) -> Key
         requires cluster { cluster < 2 ^ 31 }
         requires distance { distance < 2 ^ 27 }
@@ -56,6 +61,7 @@ impl Key {
         }
     }
 
+    /// What the key is made of.
     pub fn parts(&self) -> KeyParts
         ensures parts { result ≡ parts_of self.now }
         ensures number { key_of result ≡ self.now }

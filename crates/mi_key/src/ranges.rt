@@ -7,7 +7,9 @@ use crate::Key;
 /// The keys from one key to another, ends included.
 #[derive(Clone, Copy, Debug, PartialEq, Eq)]
 pub struct Interval {
+    /// The least key.
     pub from: Key,
+    /// The greatest key.
     pub to: Key,
 }
 

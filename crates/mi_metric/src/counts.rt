@@ -1,5 +1,5 @@
 //! The number of positions that differ.
-ghost use Rattle.std.specs.Prelude.{◌≡◌, ◌≤◌, IsTrue, length};
+ghost use Rattle.std.specs.Prelude.{◌≡◌, ◌≤◌, length};
 ghost use Rattle.mi_base.specs.Space.{count_of_differences, hamming_metric};
 
 use crate::Metric;
@@ -10,12 +10,14 @@ use std::sync::ledger::Ledger;
 /// Hamming: the number of positions that differ, for vectors of `dims` coordinates.
 #[derive(Clone, Copy, Debug, PartialEq, Eq)]
 pub struct Hamming {
+    /// Coordinates a vector, from 1 to 64.
     pub dims: u32,
     ghost some: { 1 ≤ dims },
     ghost few: { dims ≤ 64 },
 }
 
 impl Hamming {
+    /// The metric of vectors of so many coordinates.
     pub fn new(dims: u32) -> Hamming
         requires some { 1 ≤ dims }
         requires few { dims ≤ 64 }

@@ -1,5 +1,5 @@
 //! The greatest of the differences.
-ghost use Rattle.std.specs.Prelude.{◌≡◌, ◌≤◌, IsTrue, length};
+ghost use Rattle.std.specs.Prelude.{◌≡◌, ◌≤◌, length};
 ghost use Rattle.mi_base.specs.Space.{greatest_difference, max_metric};
 
 use crate::Metric;
@@ -10,12 +10,14 @@ use std::sync::ledger::Ledger;
 /// The maximum metric: the greatest absolute difference, for vectors of `dims` coordinates.
 #[derive(Clone, Copy, Debug, PartialEq, Eq)]
 pub struct Max {
+    /// Coordinates a vector, from 1 to 64.
     pub dims: u32,
     ghost some: { 1 ≤ dims },
     ghost few: { dims ≤ 64 },
 }
 
 impl Max {
+    /// The metric of vectors of so many coordinates.
     pub fn new(dims: u32) -> Max
         requires some { 1 ≤ dims }
         requires few { dims ≤ 64 }

@@ -9,6 +9,7 @@ use std::sync::ledger::Ledger;
 pub trait Metric {
     ghost space: { Self → MetricSpace };
 
+    /// Whether the vector is one of the space. It takes no memory.
     fn fits(&self, v: &Vector) -> bool
         ensures { result ≡ (space self.now).fits v.now };
 

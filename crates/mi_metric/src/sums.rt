@@ -11,12 +11,14 @@ use std::sync::ledger::Ledger;
 /// L1: the sum of the absolute differences, for vectors of `dims` coordinates.
 #[derive(Clone, Copy, Debug, PartialEq, Eq)]
 pub struct L1 {
+    /// Coordinates a vector, from 1 to 64.
     pub dims: u32,
     ghost some: { 1 ≤ dims },
     ghost few: { dims ≤ 64 },
 }
 
 impl L1 {
+    /// The metric of vectors of so many coordinates.
     pub fn new(dims: u32) -> L1
         requires some { 1 ≤ dims }
         requires few { dims ≤ 64 }

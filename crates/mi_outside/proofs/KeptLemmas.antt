@@ -5,10 +5,9 @@ use Rattle.std.specs.List.{list_any}
 use Rattle.std.proofs.lemmas.Result.{IfErr-at_err}
 use Rattle.mi_outside.specs.declared.reading.ReadRefusal.{ReadRefusal}
 use Rattle.mi_outside.specs.declared.reading.ReadRefusal.TheVariants.{Failed}
-use Rattle.mi_outside.specs.declared.writing.SinkFailed.{SinkFailed}
 use Rattle.mi_outside.specs.Contents.{held}
 use Rattle.mi_outside.specs.Kept.{KeptFiles, read_fails}
-use Rattle.mi_outside.specs.Outside.{Rose, raised, RefusesRead, Sends}
+use Rattle.mi_outside.specs.Outside.{Rose, raised, RefusesRead}
 
 -- a count that stays 0 never rose
 pub never_rose : Rose 0 0 → ⊥
@@ -17,10 +16,6 @@ never_rose rose = absurd (omega (arith, rose))
 -- a read whose count stays 0 has not failed
 pub never_failed : (told : Option (List ℕ)) (r : Result (Unit {0}) ReadRefusal) → IfErr r (RefusesRead told 0 0) → r ≢ Err Failed
 never_failed told r refused failed = never_rose (IfErr-at_err (RefusesRead told 0 0) failed refused)
-
--- a text sent to a sink whose count stays 0 is sent whole
-pub never_stopped : (b a : Option (List ℕ)) (f : SinkFailed) (text : List ℕ) → Sends b 0 (Err f) a 0 text → ⊥
-never_stopped b a f text sends = never_rose sends.err.1
 
 -- a call that isn't listed, of a name that has a content, is not one that fails
 pub reads_on : (kept : KeptFiles) (calls number : ℕ) (fails content name : List ℕ) → fails ≡ kept.fails → calls ≡ kept.calls → number ≡ raised calls → false ≡ list_any (λ k. nat_eq k number) fails → Some content ≡ held kept.files name → IsTrue (read_fails kept name) → ⊥

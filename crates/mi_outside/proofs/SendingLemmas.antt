@@ -1,5 +1,5 @@
 -- How sends of texts, one after another, are the send of the texts joined.
-use Rattle.std.proofs.Common.{◌≡◌, ℕ, ◌<◌, ◌≤◌, List, [], ◌++◌, length, take, drop, Option, None, Some, Result, Ok, Err, refl, sym, ◌∙◌, ap, subst, arith, append_assoc, append-nil}
+use Rattle.std.proofs.Common.{◌≡◌, ℕ, ◌<◌, ◌≤◌, List, ◌++◌, length, take, drop, Option, None, Some, Result, Ok, Err, refl, sym, ◌∙◌, ap, subst, arith, append_assoc}
 use Rattle.std.proofs.lemmas.List.{take-append-drop}
 use Rattle.std.specs.Result.{IsErrAnd}
 use Rattle.mi_outside.specs.declared.writing.SinkFailed.{SinkFailed}
@@ -8,15 +8,6 @@ use Rattle.mi_outside.specs.Outside.{Rose, Wrote, WroteFront, Writes, Fails, Sen
 -- a rise after a count that didn't fall is a rise of the whole
 pub Rose-later : (c d e : ℕ) → c ≤ d → Rose d e → Rose c e
 Rose-later c d e grows rose = omega arith
-
--- a rise before a count that didn't fall is a rise of the whole
-pub Rose-earlier : (c d e : ℕ) → Rose c d → d ≤ e → Rose c e
-Rose-earlier c d e rose grows = omega arith
-
--- nothing went out, and that is the empty text
-pub sends_nothing : (b : Option (List ℕ)) (c : ℕ) (u : Unit {0}) → Sends b c (Ok u) b c []
-sends_nothing None c u = record { grows = omega arith; ok = tt; err = tt }
-sends_nothing (Some x) c u = record { grows = omega arith; ok = ap Some (sym (append-nil x)); err = tt }
 
 -- the same at an equal text
 pub sends_as : {b : Option (List ℕ)} {c : ℕ} {r : Result (Unit {0}) SinkFailed} {a : Option (List ℕ)} {d : ℕ} (s t : List ℕ) → s ≡ t → Sends b c r a d s → Sends b c r a d t

@@ -31,6 +31,7 @@ impl Model for Folder {
 }
 
 impl Folder {
+    /// A folder without files. It takes no memory.
     pub fn new(alloc: Global) -> Folder
         ensures { result ≡ [] }
     {
@@ -39,6 +40,7 @@ impl Folder {
         }
     }
 
+    /// The content of the file of this name, in bytes.
     pub fn get(&self, name: &str) -> Option<&[u8]>
         ensures { option_copied result ≡ held self.now name.now }
     {

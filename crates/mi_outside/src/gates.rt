@@ -11,6 +11,7 @@ pub enum GatePoint {
 
 /// It is passed between sections and does nothing to the index.
 pub trait Gate: Sync {
+    /// The actor is at this point.
     fn pass(&self, actor: u32, point: GatePoint);
 }
 
@@ -19,6 +20,7 @@ pub trait Gate: Sync {
 pub struct OpenGate;
 
 impl OpenGate {
+    /// The open gate.
     pub fn new() -> OpenGate {
         OpenGate
     }

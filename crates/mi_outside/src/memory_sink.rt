@@ -1,6 +1,6 @@
 //! A sink in memory, some of whose writes fail.
-ghost use Rattle.std.specs.Prelude.{◌≡◌, ◌≤◌, ◌↔◌, ℕ, [], Some, IsTrue, IsErr, IfOk, OnErr};
-ghost use Rattle.mi_outside.specs.Kept.{KeptBytes, after_write, taken_of, write_fails};
+ghost use Rattle.std.specs.Prelude.{◌≡◌, ◌≤◌, ◌↔◌, [], Some, IsTrue, IsErr, IfOk, OnErr};
+ghost use Rattle.mi_outside.specs.Kept.{after_write, taken_of, write_fails};
 ghost use Rattle.mi_outside.specs.Outside.{Fails, Writes};
 
 use crate::{Sink, SinkFailed};
@@ -20,7 +20,7 @@ pub struct MemorySink {
 }
 
 impl Model for MemorySink {
-    ghost use Rattle.std.specs.Prelude.{◌≤◌, ℕ, length, vec_capacity};
+    ghost use Rattle.std.specs.Prelude.{◌≤◌, length, vec_capacity};
     ghost use Rattle.mi_outside.specs.Kept.{KeptBytes};
 
     ghost Value = { KeptBytes };

@@ -1,7 +1,7 @@
 //! Files and a sink that never fail.
-ghost use Rattle.std.specs.Prelude.{◌≡◌, ◌≤◌, ◌≢◌, ℕ, List, Option, [], Some, None, Ok, Err, length, unwrap_or, IfOk, IfErr, OnOk, OnErr};
+ghost use Rattle.std.specs.Prelude.{◌≡◌, ◌≢◌, [], Some, None, Ok, Err, length, unwrap_or, IfErr, OnOk, OnErr};
 ghost use Rattle.mi_outside.specs.Contents.{Gives, held};
-ghost use Rattle.mi_outside.specs.Outside.{Fails, Reads, RefusesRead, Writes};
+ghost use Rattle.mi_outside.specs.Outside.{Reads, RefusesRead};
 
 use crate::folder::{Folder, add_content};
 use crate::{Files, ReadRefusal, Sink, SinkFailed};
@@ -24,6 +24,7 @@ impl Model for SteadyFiles {
 }
 
 impl SteadyFiles {
+    /// Files of which none has a content yet. It takes no memory.
     pub fn new(alloc: Global) -> SteadyFiles
         ensures { result ≡ [] }
     {
@@ -61,6 +62,7 @@ impl Files for SteadyFiles {
 pub struct SteadySink;
 
 impl SteadySink {
+    /// The sink. It takes no memory.
     pub fn new() -> SteadySink {
         SteadySink
     }

@@ -1,5 +1,5 @@
 //! Lists of entries in key order.
-ghost use Rattle.std.specs.Prelude.{◌≡◌, ◌+◌, ◌<◌, ◌≤◌, ℕ, length, nat_lt, map, true, is_some, IfSome, IsSomeAnd, slice_get, vec_len, vec_capacity};
+ghost use Rattle.std.specs.Prelude.{◌≡◌, ◌+◌, ◌<◌, ◌≤◌, length, nat_lt, map, true, is_some, IfSome, IsSomeAnd, slice_get, vec_len, vec_capacity};
 ghost use Rattle.std.specs.List.{AllByRecursion, prefix_len};
 ghost use Rattle.mi_base.specs.Sorting.{put};
 ghost use Rattle.mi_page.specs.Keys.{Ascending};

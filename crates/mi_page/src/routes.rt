@@ -1,5 +1,5 @@
 //! Lists of routes in key order, from a page to those one level below it.
-ghost use Rattle.std.specs.Prelude.{◌≡◌, ◌<◌, ◌≤◌, ℕ, length, nat_lt, IsSomeAnd, slice_get, vec_len, vec_capacity};
+ghost use Rattle.std.specs.Prelude.{◌≡◌, ◌<◌, ◌≤◌, length, nat_lt, IsSomeAnd, slice_get, vec_len, vec_capacity};
 ghost use Rattle.std.specs.List.{prefix_len};
 ghost use Rattle.mi_base.specs.Sorting.{put};
 ghost use Rattle.mi_page.specs.Keys.{Ascending};

@@ -40,6 +40,7 @@ impl Pivots {
         Ok(Pivots { list: copy })
     }
 
+    /// How many pivots there are.
     pub fn len(&self) -> usize
         ensures value { result ≡ length self.now }
         ensures few { length self.now ≤ 32 }
@@ -47,6 +48,7 @@ impl Pivots {
         self.list.len()
     }
 
+    /// There are no pivots.
     pub fn is_empty(&self) -> bool
         ensures { result ≡ (length self.now == 0) }
     {

@@ -16,7 +16,7 @@ use Rattle.mi_print.specs.Render.{transcript}
 abbrev pub AreNumbers : List ℕ → Type 0
 AreNumbers ns = AllByRecursion (λ n. n < 2 ^ 64) ns
 
--- coordinates of 64 bits and a sign
+-- coordinates of 63 bits and a sign
 abbrev pub AreCoordinates : List ℤ → Type 0
 AreCoordinates zs = AllByRecursion (λ z. mag z < 2 ^ 63) zs
 

@@ -1,5 +1,5 @@
 -- The objects that a query is compared with are the live ones that the filter lets through.
-use Rattle.std.proofs.Common.{◌≡◌, ℕ, suc, zero, ℤ, ◌≤◌, ◌<◌, List, [], ◌∷◌, map, length, get_or, Bool, true, false, ◌&&◌, ◌||◌, cond, refl, sym, ap, ◌∙◌, arith}
+use Rattle.std.proofs.Common.{◌≡◌, ℕ, suc, zero, ℤ, ◌≤◌, ◌<◌, List, [], ◌∷◌, length, get_or, Bool, true, false, ◌&&◌, ◌||◌, cond, refl, sym, ap, ◌∙◌, arith}
 use Rattle.std.specs.List.{filter, list_all, list_any}
 use Rattle.std.proofs.lemmas.Bool.{and_parts}
 use Rattle.std.proofs.lemmas.List.{length-map}
@@ -11,6 +11,7 @@ use Rattle.mi_base.specs.Space.{Space}
 use Rattle.mi_tree.specs.Cells.{IsGrid, AllMaySplit, depth, grid_of, leaves, leaf_of}
 use Rattle.mi_tree.specs.Counting.{belongs, held, in_hull, leaf_with}
 use Rattle.mi_tree.specs.Passing.{candidates, is_opened, lets_through, passes}
+use Rattle.mi_tree.proofs.CountLemmas.{any_map}
 use Rattle.mi_tree.proofs.CoverLemmas.{live_covered}
 use Rattle.mi_tree.proofs.LeafLemmas.{begins_take, one_leaf}
 use Rattle.mi_tree.proofs.GridLemmas.{space_is_grid}
@@ -45,10 +46,6 @@ any_of_one b u x (y ∷ ys) e h =
     let P : Bool → Type 0 = λ s. cond s (y ∷ filter b ys) (filter b ys) ≡ x ∷ [] → ((s && u y) || list_any (λ z. b z && u z) ys) ≡ true in
     let go : (s : Bool) → P s = elim [ true ↦ λ k. (let same : y ≡ x = cc in ap (λ z. u z || list_any (λ w. b w && u w) ys) same ∙ ap (λ s. s || list_any (λ w. b w && u w) ys) h) | false ↦ λ k. any_of_one b u x ys k h ] in
     go (b y) e
-
-any_map : {X Y : Type 0} (t : Y → Bool) (f : X → Y) (xs : List X) → list_any t (map f xs) ≡ list_any (λ x. t (f x)) xs
-any_map t f [] = refl
-any_map t f (x ∷ xs) = ap (λ b. t (f x) || b) (any_map t f xs)
 
 pub candidates_are : (space : Space) (levels : ℕ) → length space.pivots ≤ 32 → IsDepth (length space.pivots) levels → (log : List LogEvent) → AllMaySplit (grid_of space levels) log → (query : List ℤ) (r : ℕ)
     → candidates space levels log query r ≡ filter (λ o. lets_through r (distances space query) (distances space o.vector)) (live (updates_of log))

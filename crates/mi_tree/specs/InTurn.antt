@@ -1,4 +1,4 @@
--- One script alone: each operation finds the log as those before it left it.
+-- One script alone: each operation begins when the log has the updates of those before it and no others.
 use Rattle.std.specs.Prelude.{◌≡◌, ℕ, ◌+◌, List, [], ◌∷◌}
 use Rattle.mi_base.specs.declared.records.Reply.{Reply}
 use Rattle.mi_base.specs.declared.records.Reply.TheVariants.{Stored, Removed, Present, Absent, Full, Range, Nearest}

@@ -105,6 +105,7 @@ impl Catalog {
         }
     }
 
+    /// How many leaves there are.
     pub fn len(&self) -> usize
         ensures { result ≡ length self.now.leaves }
     {
@@ -119,6 +120,7 @@ impl Catalog {
         &self.leaves[place]
     }
 
+    /// The same catalog again, in memory of its own.
     pub fn copy(&self, alloc: Global) -> Result<Catalog, NoMemory>
         ensures { IfOk result (λ c. c ≡ self.now) }
     {

@@ -1,5 +1,5 @@
 //! What a leaf says of itself.
-ghost use Rattle.std.specs.Prelude.{◌≡◌, ◌≤◌};
+ghost use Rattle.std.specs.Prelude.{◌≡◌};
 ghost use Rattle.mi_tree.specs.Counting.{is_crowded, is_splittable, is_wanted};
 
 use crate::Leaf;
@@ -32,9 +32,8 @@ impl Leaf {
 
     /// The leaf may be split, and has four times the cell size or more.
     pub fn is_crowded(&self, levels: u32, cell: u32) -> bool
-        requires { cell ≤ 10000 }
         ensures { result ≡ is_crowded levels cell self.now }
     {
-        self.is_splittable(levels) && self.count >= 4 * cell
+        self.is_splittable(levels) && u64::from(self.count) >= 4 * u64::from(cell)
     }
 }

@@ -1,5 +1,4 @@
 //! Cells, and what a run of scripts leaves.
-ghost use Rattle.std.specs.Prelude.{◌≡◌, ◌≤◌};
 
 use mi_base::{Log, Prefix, Sequence, Transcript};
 
@@ -27,6 +26,6 @@ pub struct Outcome {
     pub allotted: u32,
     /// How many pages may be allotted.
     pub limit: u32,
-    /// True exactly where memory was wanted and an answer is missing for it.
+    /// True exactly where memory was wanted: an answer is missing for it, or a split was given up.
     pub short: bool,
 }

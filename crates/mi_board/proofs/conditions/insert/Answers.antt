@@ -1,14 +1,11 @@
-use Rattle.std.proofs.Common.{◌≡◌, ◌∙◌, ◌||◌, [], ◌∷◌, refl, sym, ap, map, ℕ, List, Bool, false}
+use Rattle.std.proofs.Common.{◌≡◌, ◌∙◌, sym, ap, ℕ, List, Bool, false}
 use Rattle.std.specs.Prelude.{◌==◌}
 use Rattle.std.specs.List.{list_any}
 use Rattle.mi_base.specs.declared.records.LogEvent.{LogEvent}
 use Rattle.mi_base.specs.History.{Object, is_live, live, updates_of}
+use Rattle.mi_tree.proofs.CountLemmas.{any_map}
 use Rattle.mi_board.specs.declared.conditions.Live.{Live}
 use Rattle.mi_board.proofs.conditions.insert.Goals as goal
-
-any_map : {X Y : Type 0} (t : Y → Bool) (f : X → Y) (xs : List X) → list_any t (map f xs) ≡ list_any (λ x. t (f x)) xs
-any_map t f [] = refl
-any_map t f (x ∷ xs) = ap (λ b. t (f x) || b) (any_map t f xs)
 
 pub commit_insert-number-requires-clause-object : goal.commit_insert-number-requires-clause-object
 commit_insert-number-requires-clause-object g c =
