@@ -15,13 +15,3 @@ IsOpOver m (Nearest count query) = (1 ≤ count) × (count ≤ 1000000) × IsTru
 pub record IsScriptOver (m : MetricSpace) (ops : List Op) : Type 0 where
   pub few : length ops ≤ 200000
   pub each : AllByRecursion (IsOpOver m) ops
-
--- an operation of a kind that can be answered yet: all but a query for the nearest
-abbrev pub IsServed : Op → Type 0
-IsServed (Insert id vector) = Unit {0}
-IsServed (Delete id) = Unit {0}
-IsServed (Range radius query) = Unit {0}
-IsServed (Nearest count query) = ⊥
-
-abbrev pub AreServed : List Op → Type 0
-AreServed ops = AllByRecursion IsServed ops
