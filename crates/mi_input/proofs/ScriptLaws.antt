@@ -3,14 +3,14 @@ use Rattle.std.proofs.Common.{◌≡◌, ℕ, ℤ, ◌+◌, ◌-◌, ◌^◌, �
 use Rattle.std.specs.List.{AllByRecursion}
 use Rattle.std.proofs.lemmas.Bool.{eqb-true}
 use Rattle.mi_base.specs.declared.records.Op.{Op}
-use Rattle.mi_base.specs.declared.records.Op.TheVariants.{Insert, Delete, Range}
+use Rattle.mi_base.specs.declared.records.Op.TheVariants.{Insert, Delete, Range, Nearest}
 use Rattle.mi_base.specs.Configuration.{Configuration, IsWithinLimits, metric_space}
-use Rattle.mi_base.specs.Scripts.{IsOpOver, IsScriptOver, AreServed, IsServed}
+use Rattle.mi_base.specs.Scripts.{IsOpOver, IsScriptOver}
 use Rattle.mi_input.specs.declared.faults.Reason.TheVariants.{Fields}
 use Rattle.mi_input.specs.Faults.{◌>>=◌, at_record}
 use Rattle.mi_input.specs.Numbers.{count_in}
 use Rattle.mi_input.specs.Records.{field_in}
-use Rattle.mi_input.specs.Scripts.{delete_in, id_in, insert_in, op_in, range_in, script_from}
+use Rattle.mi_input.specs.Scripts.{delete_in, id_in, insert_in, nearest_in, op_in, range_in, script_from}
 use Rattle.mi_input.specs.Vectors.{shape_of, vector_in}
 use Rattle.mi_input.proofs.CaseLemmas.{at_record_ok, bind_ok, chosen, ok_same}
 use Rattle.mi_input.proofs.ScriptLemmas.{op_ok}
@@ -58,6 +58,17 @@ range_over c fields op within h = elim (chosen (length fields == c.dims + 2) _ (
   | inr other ↦ cc other.1
 ]
 
+nearest_over : (c : Configuration) (fields : List (List ℕ)) (op : Op) → IsWithinLimits c → nearest_in (shape_of c) fields ≡ Ok op → IsOpOver (metric_space c) op
+unfolding nearest_in
+nearest_over c fields op within h = elim (chosen (length fields == c.dims + 2) _ (Err Fields) (Ok op) h) [
+  | inl full ↦
+      let (count, first, more) = bind_ok (count_in 1 1000000 (field_in 1 fields)) (λ count. vector_in (shape_of c) (drop 2 fields) >>= λ v. Ok (Nearest count v)) op full.1 in
+      let (v, second, e) = bind_ok (vector_in (shape_of c) (drop 2 fields)) (λ v. Ok (Nearest count v)) op more in
+      let t = count_ok 1 1000000 (field_in 1 fields) count first in
+      rw (← ok_same (Nearest count v) op e) (t.0, t.1, vector_fits c (drop 2 fields) v within (rest_length fields c.dims full.0) second)
+  | inr other ↦ cc other.1
+]
+
 op_over : (c : Configuration) (number : ℕ) (fields : List (List ℕ)) (op : Op) → IsWithinLimits c → op_in (shape_of c) number fields ≡ Ok op
     → (number ≤ 200000) × IsOpOver (metric_space c) op
 op_over c number fields op within h =
@@ -65,7 +76,10 @@ op_over c number fields op within h =
       o.0,
       elim o.1 [
         | inl inserts ↦ insert_over c fields op within inserts
-        | inr others ↦ elim others [ inl deletes ↦ delete_over c fields op deletes | inr ranges ↦ range_over c fields op within ranges ]
+        | inr others ↦ elim others [
+          | inl deletes ↦ delete_over c fields op deletes
+          | inr queries ↦ elim queries [ inl ranges ↦ range_over c fields op within ranges | inr nearest ↦ nearest_over c fields op within nearest ]
+        ]
       ],
     )
 
@@ -84,48 +98,3 @@ records_over c number (fields ∷ rest) ops within few h =
 pub script_over : (c : Configuration) (records : List (List (List ℕ))) (ops : List Op) → IsWithinLimits c → script_from (shape_of c) 1 records ≡ Ok ops
     → IsScriptOver (metric_space c) ops
 script_over c records ops within h = let r = records_over c 1 records ops within (lit≤ tt) h in record { few = omega (arith, r.0); each = r.1 }
-
-insert_served : (c : Configuration) (fields : List (List ℕ)) (op : Op) → insert_in (shape_of c) fields ≡ Ok op → IsServed op
-unfolding insert_in
-insert_served c fields op h = elim (chosen (length fields == c.dims + 2) _ (Err Fields) (Ok op) h) [
-  | inl full ↦
-      let (id, first, more) = bind_ok (id_in (field_in 1 fields)) (λ id. vector_in (shape_of c) (drop 2 fields) >>= λ v. Ok (Insert id v)) op full.1 in
-      let (v, second, e) = bind_ok (vector_in (shape_of c) (drop 2 fields)) (λ v. Ok (Insert id v)) op more in
-      rw (← ok_same (Insert id v) op e) tt
-  | inr other ↦ cc other.1
-]
-
-delete_served : (fields : List (List ℕ)) (op : Op) → delete_in fields ≡ Ok op → IsServed op
-unfolding delete_in
-delete_served fields op h = elim (chosen (length fields == 2) _ (Err Fields) (Ok op) h) [
-  | inl full ↦
-      let (id, first, e) = bind_ok (id_in (field_in 1 fields)) (λ id. Ok (Delete id)) op full.1 in
-      rw (← ok_same (Delete id) op e) tt
-  | inr other ↦ cc other.1
-]
-
-range_served : (c : Configuration) (fields : List (List ℕ)) (op : Op) → range_in (shape_of c) fields ≡ Ok op → IsServed op
-unfolding range_in
-range_served c fields op h = elim (chosen (length fields == c.dims + 2) _ (Err Fields) (Ok op) h) [
-  | inl full ↦
-      let (radius, first, more) = bind_ok (count_in 0 2147483647 (field_in 1 fields)) (λ radius. vector_in (shape_of c) (drop 2 fields) >>= λ v. Ok (Range radius v)) op full.1 in
-      let (v, second, e) = bind_ok (vector_in (shape_of c) (drop 2 fields)) (λ v. Ok (Range radius v)) op more in
-      rw (← ok_same (Range radius v) op e) tt
-  | inr other ↦ cc other.1
-]
-
-op_served : (c : Configuration) (number : ℕ) (fields : List (List ℕ)) (op : Op) → op_in (shape_of c) number fields ≡ Ok op → IsServed op
-op_served c number fields op h =
-    elim (op_ok (shape_of c) number fields op h).1 [
-      | inl inserts ↦ insert_served c fields op inserts
-      | inr others ↦ elim others [ inl deletes ↦ delete_served fields op deletes | inr ranges ↦ range_served c fields op ranges ]
-    ]
-
--- a script that was read has operations of the kinds that can be read
-pub script_served : (c : Configuration) (number : ℕ) (records : List (List (List ℕ))) (ops : List Op) → script_from (shape_of c) number records ≡ Ok ops → AreServed ops
-unfolding script_from
-script_served c number [] ops h = let e : [] ≡ ops = ok_same [] ops h in rw (← e) tt
-script_served c number (fields ∷ rest) ops h =
-    let (op, first, more) = bind_ok (at_record number (op_in (shape_of c) number fields)) (λ op. script_from (shape_of c) (number + 1) rest >>= λ ops. Ok (op ∷ ops)) ops h in
-    let (after, read, e) = bind_ok (script_from (shape_of c) (number + 1) rest) (λ (ops : List Op). Ok (op ∷ ops)) ops more in
-    rw (← ok_same (op ∷ after) ops e) (op_served c number fields op (at_record_ok number (op_in (shape_of c) number fields) op first), script_served c (number + 1) rest after read)

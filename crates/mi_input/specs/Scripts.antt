@@ -1,10 +1,10 @@
 -- The script in a file.
 use Rattle.std.specs.Prelude.{ℕ, ◌+◌, ◌-◌, ◌^◌, ◌==◌, if◌then◌else◌, List, [], ◌∷◌, length, drop, codes, Result, Ok, Err}
 use Rattle.mi_base.specs.declared.records.Op.{Op}
-use Rattle.mi_base.specs.declared.records.Op.TheVariants.{Insert, Delete, Range}
+use Rattle.mi_base.specs.declared.records.Op.TheVariants.{Insert, Delete, Range, Nearest}
 use Rattle.mi_base.specs.Configuration.{Configuration}
 use Rattle.mi_input.specs.declared.faults.Reason.{Reason}
-use Rattle.mi_input.specs.declared.faults.Reason.TheVariants.{Word, Fields, Unbuilt}
+use Rattle.mi_input.specs.declared.faults.Reason.TheVariants.{Word, Fields}
 use Rattle.mi_input.specs.declared.vectors.Shape.{Shape}
 use Rattle.mi_input.specs.Faults.{Fault, ◌>>=◌, at_record}
 use Rattle.mi_input.specs.Numbers.{count_in}
@@ -40,13 +40,22 @@ range_in shape fields =
       Ok (Range radius query))
     else Err Fields
 
--- the operation in the record of this number, or the first thing that is wrong with it; nearest queries can't be read yet
+-- nearest,K,COORDINATES
+unfoldable pub nearest_in : Shape → List (List ℕ) → Result Op Reason
+nearest_in shape fields =
+    if length fields == shape.dims + 2 then (do
+      count ← count_in 1 1000000 (field_in 1 fields)
+      query ← vector_in shape (drop 2 fields)
+      Ok (Nearest count query))
+    else Err Fields
+
+-- the operation in the record of this number, or the first thing that is wrong with it
 unfoldable pub op_in : Shape → ℕ → List (List ℕ) → Result Op Reason
 op_in shape number fields =
     if begins_with (codes "insert") fields then limited 200000 number (insert_in shape fields)
     else if begins_with (codes "delete") fields then limited 200000 number (delete_in fields)
     else if begins_with (codes "range") fields then limited 200000 number (range_in shape fields)
-    else if begins_with (codes "nearest") fields then Err Unbuilt
+    else if begins_with (codes "nearest") fields then limited 200000 number (nearest_in shape fields)
     else Err Word
 
 -- the operations in these records, of which this is the number of the first, up to the first fault

@@ -3,8 +3,8 @@ ghost use Rattle.std.specs.Prelude.{◌≡◌, Ok, IfOk, IfErr};
 ghost use Rattle.csv.specs.Records.{fields_of};
 ghost use Rattle.mi_base.specs.Configuration.{metric_space};
 ghost use Rattle.mi_input.specs.Faults.{Gives, IsFaultOf};
-ghost use Rattle.mi_base.specs.Scripts.{AreServed, IsScriptOver};
-ghost use Rattle.mi_input.specs.Scripts.{delete_in, id_in, insert_in, op_in, range_in, script_from, script_in};
+ghost use Rattle.mi_base.specs.Scripts.{IsScriptOver};
+ghost use Rattle.mi_input.specs.Scripts.{delete_in, id_in, insert_in, nearest_in, op_in, range_in, script_from, script_in};
 ghost use Rattle.mi_input.specs.Vectors.{IsShape};
 ghost use Rattle.mi_input.specs.Records.{records_in};
 
@@ -23,6 +23,8 @@ const MAX_RECORDS: u32 = 200_000;
 const MAX_ID: u64 = (1 << 40) - 1;
 /// The greatest radius.
 const MAX_RADIUS: u64 = 2_147_483_647;
+/// The greatest count of objects that a query for the nearest asks for.
+const MAX_COUNT: u64 = 1_000_000;
 
 fn id_of(field: &[u8]) -> Result<Id, Reason>
     ensures { result ≡ id_in field.now }
@@ -70,6 +72,19 @@ fn range_of(shape: &Shape, fields: &ByteRecord) -> Result<Op, Reason>
     Ok(Op::Range { radius, query })
 }
 
+#[tactic(auto, unfolding(crate::specs::Scripts::nearest_in))]
+fn nearest_of(shape: &Shape, fields: &ByteRecord) -> Result<Op, Reason>
+    requires { IsShape shape.now }
+    ensures { result ≡ nearest_in shape.now (fields_of fields.now) }
+{
+    if fields.len() != shape.dims + 2 {
+        return Err(Reason::Fields);
+    }
+    let count = count(field(fields, 1), 1, MAX_COUNT)? as u32;
+    let query = shape.vector(fields, 2)?;
+    Ok(Op::Nearest { count, query })
+}
+
 // The operation in the record of this number.
 #[tactic(auto, unfolding(crate::specs::Scripts::op_in))]
 fn op_of(shape: &Shape, number: u32, fields: &ByteRecord) -> Result<Op, Reason>
@@ -79,13 +94,9 @@ fn op_of(shape: &Shape, number: u32, fields: &ByteRecord) -> Result<Op, Reason>
     let inserts = begins(fields, b"insert");
     let deletes = begins(fields, b"delete");
     let ranges = begins(fields, b"range");
-    if !inserts && !deletes && !ranges {
-        let nearest = begins(fields, b"nearest");
-        return Err(if nearest {
-            Reason::Unbuilt
-        } else {
-            Reason::Word
-        });
+    let nearest = begins(fields, b"nearest");
+    if !inserts && !deletes && !ranges && !nearest {
+        return Err(Reason::Word);
     }
     if number > MAX_RECORDS {
         return Err(Reason::Limit);
@@ -94,8 +105,10 @@ fn op_of(shape: &Shape, number: u32, fields: &ByteRecord) -> Result<Op, Reason>
         insert_of(shape, fields)
     } else if deletes {
         delete_of(fields)
-    } else {
+    } else if ranges {
         range_of(shape, fields)
+    } else {
+        nearest_of(shape, fields)
     }
 }
 
@@ -120,7 +133,6 @@ fn script_of(alloc: Global, bytes: &[u8], shape: &Shape) -> Result<Script, Input
 pub fn read_script(alloc: Global, bytes: &[u8], settings: &Settings) -> Result<Script, InputFault>
     ensures ok { IfOk result (λ script. script_in settings.now bytes.now ≡ Ok script) }
     ensures script { IfOk result (IsScriptOver (metric_space settings.now)) }
-    ensures served { IfOk result AreServed }
     ensures err { IfErr result (IsFaultOf (script_in settings.now bytes.now)) }
 {
     script_of(alloc, bytes, &Shape::of(settings))

@@ -139,7 +139,7 @@ fn bad_settings(rt: HostRuntime) -> Result<(), Fail> {
     Ok(())
 }
 
-static BAD_SCRIPTS: [(&[u8], u32, Reason); 26] = [
+static BAD_SCRIPTS: [(&[u8], u32, Reason); 35] = [
     (b"x\n", 1, Reason::Word),
     (b"\"\"\n", 1, Reason::Word),
     (b"Insert,1,0,0\n", 1, Reason::Word),
@@ -163,8 +163,17 @@ static BAD_SCRIPTS: [(&[u8], u32, Reason); 26] = [
     (b"range,2147483648,0,0\n", 1, Reason::Range),
     (b"range,-1,0,0\n", 1, Reason::Range),
     (b"range,1,0\n", 1, Reason::Fields),
-    (b"nearest\n", 1, Reason::Unbuilt),
-    (b"nearest,x,0,0\n", 1, Reason::Unbuilt),
+    (b"Nearest,1,0,0\n", 1, Reason::Word),
+    (b"nearest\n", 1, Reason::Fields),
+    (b"nearest,0,0\n", 1, Reason::Fields),
+    (b"nearest,1,0,0,0\n", 1, Reason::Fields),
+    (b"nearest,x,1000001,0\n", 1, Reason::Number),
+    (b"nearest,0,x,0\n", 1, Reason::Range),
+    (b"nearest,1000001,0,0\n", 1, Reason::Range),
+    (b"nearest,-1,0,0\n", 1, Reason::Range),
+    (b"nearest,1,x,1000001\n", 1, Reason::Number),
+    (b"nearest,1,1000001,x\n", 1, Reason::Range),
+    (b"nearest,1,0,-1000001\n", 1, Reason::Range),
     (b"\xef\xbb\xbf\xef\xbb\xbfdelete,1\n", 1, Reason::Word),
 ];
 
@@ -178,7 +187,7 @@ fn bad_scripts(rt: HostRuntime) {
 static BAD_UNDER_PIVOTS: [(&[u8], u32, Reason); 4] = [
     (b"range,1,0\n", 1, Reason::Fields),
     (b"range,2147483648,0,0\n", 1, Reason::Range),
-    (b"nearest,1,0,0\n", 1, Reason::Unbuilt),
+    (b"nearest,0,0,0\n", 1, Reason::Range),
     (b"insert,1,0,0\ninsert,2,0\n", 2, Reason::Fields),
 ];
 
@@ -189,10 +198,12 @@ fn bad_scripts_under_pivots(rt: HostRuntime) {
     }
 }
 
-static BAD_ROWS: [(&[u8], Reason); 3] = [
+static BAD_ROWS: [(&[u8], Reason); 5] = [
     (b"insert,1,3\n", Reason::Range),
     (b"insert,1,-1\n", Reason::Range),
     (b"insert,1,0,0\n", Reason::Fields),
+    (b"nearest,1,3\n", Reason::Range),
+    (b"nearest,1,0,0\n", Reason::Fields),
 ];
 
 #[test]
@@ -292,7 +303,7 @@ fn reads_as(read: Result<Script, InputFault>, want: (usize, u64, i64)) -> bool {
     }
 }
 
-static GOOD_SCRIPTS: [(&[u8], (usize, u64, i64)); 6] = [
+static GOOD_SCRIPTS: [(&[u8], (usize, u64, i64)); 8] = [
     (b"", (0, 0, 0)),
     (b"\"insert\",7,+0,-00\r\n", (1, 7, 0)),
     (
@@ -302,6 +313,11 @@ static GOOD_SCRIPTS: [(&[u8], (usize, u64, i64)); 6] = [
     (
         b"\xef\xbb\xbfinsert,1099511627775,-1000000,1000000\n",
         (1, 1_099_511_627_775, -1_000_000),
+    ),
+    (b"nearest,1,3,0\n", (1, 1, 3)),
+    (
+        b"nearest,+01000000,-1000000,1000000",
+        (1, 1_000_000, -1_000_000),
     ),
     (b"delete,00000000000000000012\n", (1, 12, 0)),
     (b"delete,\"1\"2\n", (1, 12, 0)),
@@ -313,6 +329,13 @@ fn good_scripts(rt: HostRuntime) {
         assert!(rt; reads_as(script(rt.alloc(), GOOD, text), *want));
     }
     assert!(rt; reads_as(script(rt.alloc(), ROWS, b"insert,1,2\n"), (1, 1, 2)));
+    assert!(rt; reads_as(script(rt.alloc(), ROWS, b"nearest,1,2\n"), (1, 1, 2)));
+    assert!(rt;
+        reads_as(
+            script(rt.alloc(), ROWS, b"nearest,1,2\nnearest,1000000,0\n"),
+            (2, 1_000_000, 0)
+        )
+    );
     assert!(rt;
         reads_as(
             script(rt.alloc(), PIVOTS, b"insert,1,2,0\ndelete,1\n"),

@@ -1,7 +1,7 @@
 -- How the files of a call are read and found good or not.
 use Rattle.std.specs.Prelude.{◌≡◌, ℕ, ◌≤◌, List, Option, None, Some, Result, Ok, Err}
 use Rattle.mi_base.specs.Configuration.{Configuration, metric_space}
-use Rattle.mi_base.specs.Scripts.{AreServed, IsScriptOver}
+use Rattle.mi_base.specs.Scripts.{IsScriptOver}
 use Rattle.mi_input.specs.declared.faults.Reason.TheVariants as reason
 use Rattle.mi_input.specs.declared.faults.InputFault.{InputFault}
 use Rattle.mi_input.specs.declared.faults.InputFault.TheVariants as input
@@ -49,7 +49,6 @@ inputs_in l = record { settings = l.settings; schedule = l.schedule; script = l.
 pub record MayRun (l : Loaded) : Type 0 where
   pub space : any_space l.metric ≡ metric_space l.settings
   pub script : IsScriptOver (metric_space l.settings) l.script
-  pub served : AreServed l.script
 
 -- what the texts are, as far as they were read
 abbrev pub FindsAll : Texts → ℕ → ℕ → Result Loaded Stop → Type 0

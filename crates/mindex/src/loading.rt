@@ -1,7 +1,7 @@
 //! Reads the files of a call, in the order of the words.
 ghost use Rattle.std.specs.Prelude.{◌≡◌, ℕ, List, IfOk};
 ghost use Rattle.mi_base.specs.Configuration.{metric_space};
-ghost use Rattle.mi_base.specs.Scripts.{AreServed, IsScriptOver};
+ghost use Rattle.mi_base.specs.Scripts.{IsScriptOver};
 ghost use Rattle.mi_input.specs.Schedules.{schedule_in};
 ghost use Rattle.mi_input.specs.Scripts.{script_in};
 ghost use Rattle.mi_input.specs.Settings.{settings_in};
@@ -85,7 +85,6 @@ fn load_script<F: Files>(
     ensures loads { Loads (F.content files.old name.now) 2 (F.faults files.old) (F.faults files.new) (in_file 2 (script_in settings.now)) result }
     ensures contents { (n : List ℕ) → F.content files.new n ≡ F.content files.old n }
     ensures script { IfOk result (IsScriptOver (metric_space settings.now)) }
-    ensures served { IfOk result AreServed }
 {
     let mut bytes = Vec::new(alloc);
     match files.read(name, &mut bytes) {

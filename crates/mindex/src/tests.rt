@@ -359,9 +359,9 @@ static FAULTS: [(&[u8], &[u8], &[u8], u8, &[u8]); 67] = [
     (
         PIVOTED,
         b"",
-        b"insert,1,0,0\nnearest,1,0,0\n",
+        b"insert,1,0,0\nnearest,1000001,0,0\n",
         3,
-        b"fault,2,2,unbuilt\n",
+        b"fault,2,2,range\n",
     ),
     (
         b"metric,l1\ndims,2\nlevels,1\n",
@@ -485,7 +485,7 @@ static FAULTS: [(&[u8], &[u8], &[u8], u8, &[u8]); 67] = [
         b"fault,2,1,range\n",
     ),
     (PLANE, b"", b"range,1,0\n", 3, b"fault,2,1,fields\n"),
-    (PLANE, b"", b"nearest,1,0,0\n", 3, b"fault,2,1,unbuilt\n"),
+    (PLANE, b"", b"nearest,0,0,0\n", 3, b"fault,2,1,range\n"),
     (PLANE, b"", b"\"delete,1\n", 3, b"fault,2,1,word\n"),
     (
         PLANE,

@@ -63,7 +63,7 @@ returns-clause-loads g c =
     let schedule = c.in_ok-schedule.schedule in
     let script = c.in_ok-script.script in
     loaded_all names (g.F.Files.content c.args.files.now) (g.F.Files.faults c.args.files.now) r1 r2 r3 (record { settings = settings; metric = c.in_ok-metric.metric; schedule = schedule; script = script })
-    (record { space = c.in_ok-metric.ensures.0; script = c.in_ok-script.ensures.script; served = c.in_ok-script.ensures.served })
+    (record { space = c.in_ok-metric.ensures.0; script = c.in_ok-script.ensures.script })
     c.in_ok-settings.ensures.loads c.in_ok-metric.ensures.1
     (subst (λ told. Loads told 1 r1 r2 (in_file 1 (schedule_in 1)) (Ok schedule)) (c.load_settings.ensures.contents names.schedule) c.in_ok-schedule.ensures.loads)
     (subst (λ told. Loads told 2 r2 r3 (in_file 2 (script_in settings)) (Ok script)) (c.load_schedule.ensures.contents names.script ∙ c.load_settings.ensures.contents names.script) c.in_ok-script.ensures.loads)
