@@ -1,8 +1,6 @@
 //! Pages beside a plain program: lists of identifiers with births and deaths.
-ghost use Rattle.std.specs.Prelude.{◌≡◌, ◌-◌, ◌++◌, IfOk, map, vec_capacity, vec_len};
-ghost use Rattle.mi_page.specs.Entries.{shown_in};
+ghost use Rattle.std.specs.Prelude.{◌≡◌, ◌-◌, ◌++◌, map, vec_capacity, vec_len};
 ghost use Rattle.mi_page.specs.Keys.{is_below};
-ghost use Rattle.mi_page.specs.Nodes.{fresh_node};
 
 use crate::*;
 use mi_base::{Dists, Id, NoMemory, Vector};
