@@ -1,2 +1,4 @@
+pub mod FewLemmas
 pub mod FirstLemmas
 pub mod HeapLemmas
+pub mod RankLemmas
