@@ -15,11 +15,11 @@ use Rattle.mi_base.specs.History.{row_cmp, row_of}
 use Rattle.mi_base.specs.Sorting.{Ascends, SameElements, put, sorted}
 use Rattle.mi_base.specs.Space.{IsMetric, MetricSpace}
 use Rattle.mi_base.proofs.HistoryLemmas.{row_exact, row_total}
-use Rattle.mi_base.proofs.SortingLemmas.{ascending_unique, same_sorted, sorted_ascends, sorted_of_same}
+use Rattle.mi_base.proofs.SortingLemmas.{sorted_ascends, sorted_of_same}
 use Rattle.mi_key.specs.Entries.{Offering}
 use Rattle.mi_rules.specs.Answers.{Measured}
 use Rattle.mi_rules.proofs.RuleLemmas.{not_less, refused_far}
-use Rattle.mi_tree.specs.Passing.{last_distance}
+use Rattle.mi_tree.specs.Passing.{kth_distance, last_distance}
 use Rattle.mi_nearest.specs.Nearing.{Nearing, Takes, first_rows, may_be_near, worst_of}
 
 take_take : {X : Type 0} (k : ℕ) (xs : List X) → take k (take (suc k) xs) ≡ take k xs
@@ -90,13 +90,19 @@ first_without k row rows before worst e many last far =
     let size : length (take k all) ≡ k = omega (arith, length-take k all, ap length e) in
     e ∙ sym (put_past row_cmp row all k (before_far (take k all) worst row far near) size) ∙ ap (take k) (sym (sorted_more row before))
 
+-- as many rows as there may be have a last one
+pub kth_full : (k : ℕ) (rows : List Row) (worst : ℕ) → kth_distance k rows ≡ Some worst → (k ≤ length rows) × (last_distance rows ≡ Some worst)
+kth_full k rows worst told =
+    let P : Bool → Type 0 = λ b. nat_lt (length rows) k ≡ b → cond b None (last_distance rows) ≡ Some worst → (k ≤ length rows) × (last_distance rows ≡ Some worst) in
+    let split : (b : Bool) → P b = elim [ true ↦ λ t e. cc | false ↦ λ t e. ((grind (arith, nat_tests)), e) ] in
+    split (nat_lt (length rows) k) refl told
+
 -- so it is, where the last of the rows is told
+pub farther_kth : (k : ℕ) (row : Row) (rows before : List Row) (worst : ℕ) → rows ≡ first_rows k before → kth_distance k rows ≡ Some worst → worst < row.distance → rows ≡ first_rows k (before ++ row ∷ [])
+farther_kth k row rows before worst e told far = let full = kth_full k rows worst told in first_without k row rows before worst e full.0 full.1 far
+
 pub farther_out : (w : Nearing) (before : List Row) (worst : ℕ) (row : Row) → w.rows ≡ first_rows w.count before → worst_of w ≡ Some worst → worst < row.distance → w.rows ≡ first_rows w.count (before ++ row ∷ [])
-farther_out w before worst row e told far =
-    let P : Bool → Type 0 = λ b. nat_lt (length w.rows) w.count ≡ b → cond b None (last_distance w.rows) ≡ Some worst → (w.count ≤ length w.rows) × (last_distance w.rows ≡ Some worst) in
-    let split : (b : Bool) → P b = elim [ true ↦ λ t k. cc | false ↦ λ t k. ((grind (arith, nat_tests)), k) ] in
-    let full = split (nat_lt (length w.rows) w.count) refl told in
-    first_without w.count row w.rows before worst e full.0 full.1 far
+farther_out w before worst row e told far = farther_kth w.count row w.rows before worst e told far
 
 -- the first rows don't hang on the order of the rows
 pub first_of_same : (count : ℕ) (xs ys : List Row) → SameElements xs ys → first_rows count xs ≡ first_rows count ys

@@ -1,3 +1,5 @@
+pub mod FewLemmas
 pub mod FirstLemmas
 pub mod HeapLemmas
+pub mod RankLemmas
 pub mod WalkLemmas
