@@ -138,6 +138,18 @@ fn intervals_have_the_keys_of_their_cluster(rt: HostRuntime) {
 }
 
 #[test]
+fn intervals_meet_in_the_keys_of_both(rt: HostRuntime) {
+    let id = id(&rt, 7);
+    let (near, far) = (interval(3, 1, 5), interval(3, 4, 9));
+    for (distance, inside) in [(3, false), (4, true), (5, true), (6, false)] {
+        let key = Key::make(3, distance, id, 1);
+        assert_eq!(rt; near.meet(&far).has(&key), inside, "{distance}");
+        assert_eq!(rt; far.meet(&near).has(&key), inside, "{distance}");
+        assert!(rt; !near.meet(&interval(3, 6, 9)).has(&key));
+    }
+}
+
+#[test]
 fn a_sieve_keeps_what_it_is_offered(rt: HostRuntime) -> Result<(), Fail> {
     let mut sieve = Collector {
         ids: Vec::new(rt.alloc()),

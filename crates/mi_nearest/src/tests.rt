@@ -1,11 +1,15 @@
-//! Queries for the nearest over a few objects on a line, with ties.
-ghost use Rattle.std.specs.Prelude.{◌≡◌, ◌≤◌, ◌<◌};
+//! Queries for the nearest over a few objects on a line, with ties, and leaves in their order beside a plain program.
+ghost use Rattle.std.specs.Prelude.{◌≡◌, ◌≤◌, ◌<◌, IsTrue};
+ghost use Rattle.std.specs.List.{AllByRecursion};
+ghost use Rattle.mi_base.specs.Prefixes.{all_below};
 
 use crate::*;
-use mi_base::{Dists, Id, NoMemory, Position, Reply, Row, Steps, Vector, VectorList};
+use mi_base::{Dists, Id, NoMemory, Perm, Position, Prefix, Reply, Row, Steps, Vector, VectorList};
 use mi_key::{Entry, Key};
 use mi_metric::{L1, Metric};
 use mi_perm::Pivots;
+use mi_rules::passes;
+use mi_tree::{Catalog, Leaf, Placed};
 use std::alloc::Global;
 use std::marker::Brand;
 use std::process::Abort;
@@ -138,6 +142,83 @@ fn ties_go_to_the_smaller_identifier(rt: HostRuntime) -> Result<(), Fail> {
             assert_eq!(rt; rows.as_slice(), &all[..first], "{count} of {pivots:?}");
             assert_eq!(rt; kept, worst);
         }
+    }
+    Ok(())
+}
+
+fn below(prefix: &Prefix, pivots: usize) -> bool
+    ensures { result ≡ all_below pivots prefix.now }
+{
+    prefix
+        .as_slice()
+        .iter()
+        .all(|pivot| usize::from(*pivot) < pivots)
+}
+
+/// Whether all leaves are of so many pivots.
+fn all_are_below(catalog: &Catalog, pivots: usize) -> bool
+    ensures { IsTrue result → AllByRecursion (λ leaf. IsTrue (all_below pivots leaf.prefix)) catalog.now.leaves }
+{
+    for place in 0..catalog.len() {
+        if !below(&catalog.leaf(place).prefix, pivots) {
+            return false;
+        }
+    }
+    true
+}
+
+/// Leaves of three pivots: the objects of the first two are split among their children, and the last has none.
+fn few_leaves(rt: &impl Abort, alloc: Global) -> Result<Catalog, Fail> {
+    let placed = |pivots: [u8; 3], distance: u32| {
+        Perm::new(&pivots).map(|perm| Placed { perm, distance })
+    };
+    let objects = [
+        placed([0, 1, 2], 4).ok_or("an order")?,
+        placed([0, 1, 2], 6).ok_or("an order")?,
+        placed([0, 2, 1], 3).ok_or("an order")?,
+        placed([1, 0, 2], 9).ok_or("an order")?,
+    ];
+    let mut catalog = Catalog::first(alloc, 3, 2)?;
+    for pivot in [0, 1] {
+        let prefix = Prefix::new(&[pivot]).ok_or("a prefix")?;
+        assert!(rt; catalog.split(alloc, &prefix, &objects).is_ok());
+    }
+    Ok(catalog)
+}
+
+/// The leaves in the order in which ever greater radii reach them.
+fn plainly_ranked(alloc: Global, catalog: &Catalog, query: &Dists) -> Result<Vec<Rank>, NoMemory> {
+    let mut ranks = Vec::new(alloc);
+    for bound in 0..20 {
+        for place in 0..catalog.len() {
+            let leaf = catalog.leaf(place);
+            if reaches(leaf, query, bound) && (bound == 0 || !reaches(leaf, query, bound - 1)) {
+                ranks.push(Rank { bound, place })?;
+            }
+        }
+    }
+    Ok(ranks)
+}
+
+fn reaches(leaf: &Leaf, query: &Dists, radius: u32) -> bool {
+    below(&leaf.prefix, query.len()) && passes(leaf, query, radius)
+}
+
+#[test]
+fn leaves_are_opened_by_bound_then_place(rt: HostRuntime) -> Result<(), Fail> {
+    let catalog = few_leaves(&rt, rt.alloc())?;
+    let worked = [
+        ([3, 9, 3], [(0, 1), (3, 0), (3, 2)]),
+        ([9, 1, 4], [(4, 0), (6, 1), (8, 2)]),
+    ];
+    for (distances, order) in worked {
+        let query = Dists::try_from(&distances[..]).expect(&rt, "three distances");
+        assert!(rt; all_are_below(&catalog, query.len()));
+        let ranks = ranked(rt.alloc(), &catalog, &query)?;
+        let plain = plainly_ranked(rt.alloc(), &catalog, &query)?;
+        assert_eq!(rt; ranks.as_slice(), plain.as_slice(), "{distances:?}");
+        let order = order.map(|(bound, place)| Rank { bound, place });
+        assert_eq!(rt; ranks.as_slice(), &order[..]);
     }
     Ok(())
 }

@@ -121,6 +121,32 @@ fn spans_have_the_distances_within_the_radius(rt: HostRuntime) {
 }
 
 #[test]
+fn near_spans_have_the_hull_and_what_of_it_is_near(rt: HostRuntime) {
+    let query = dists(&rt, &[2, 8]);
+    let with_hull = leaf(&rt, &[1], Some((5, 9)), &query);
+    let cluster = cluster_number(&with_hull.prefix, query.len() as u32, 6);
+    let id = Id::new(7).expect(&rt, "below 2^40");
+    let rows = [
+        (None, 5, 9),
+        (Some(2), 6, 9),
+        (Some(0), 8, 8),
+        (Some(9), 5, 9),
+    ];
+    for (worst, least, greatest) in rows {
+        let Some(span) = near_span(&with_hull, &query, worst, 6) else {
+            panic!(rt; "a leaf with a hull has keys to read");
+        };
+        for distance in 0..12 {
+            let inside = least <= distance && distance <= greatest;
+            let key = Key::make(cluster, distance, id, 1);
+            assert_eq!(rt; span.has(&key), inside, "{distance} for {worst:?}");
+        }
+    }
+    let without = leaf(&rt, &[1], None, &query);
+    assert!(rt; near_span(&without, &query, None, 6).is_none());
+}
+
+#[test]
 fn the_filter_looks_at_each_pivot(rt: HostRuntime) {
     let query = dists(&rt, &[2, 8, 128_000_000]);
     let rows = [
