@@ -1,13 +1,13 @@
 -- A walk over ranked leaves that stops at the first whose bound is greater than the last row's distance.
-use Rattle.std.proofs.Common.{◌≡◌, ℕ, suc, zero, ◌+◌, ◌<◌, ◌≤◌, List, [], ◌∷◌, ◌++◌, length, Bool, true, false, cond, nat_le, nat_lt, refl, sym, ap, ◌∙◌, subst, arith, append_assoc, append-nil, zero-add, Option, Some, None}
-use Rattle.std.specs.Prelude.{IfSome, count_by, is_some, slice_get}
+use Rattle.std.proofs.Common.{◌≡◌, ℕ, suc, zero, ◌+◌, ◌<◌, ◌≤◌, List, [], ◌∷◌, ◌++◌, length, Bool, true, false, cond, nat_le, nat_lt, refl, sym, ap, ◌∙◌, subst, arith, append_assoc, append-nil, length-append, zero-add, Option, Some, None}
+use Rattle.std.specs.Prelude.{IfSome, count_by, is_some, slice_get, slice_index_or}
 use Rattle.std.specs.List.{AllByRecursion, filter, filter_map, flat_map, sum_by}
 use Rattle.std.specs.Ordering.{is_lt, nat_cmp}
 use Rattle.std.proofs.lemmas.Bool.{false≢true, le-leb, le-ltb}
 use Rattle.std.proofs.lemmas.Bool.Decides.{nat_tests}
 use Rattle.std.proofs.lemmas.Grind.{flat_map-append}
 use Rattle.std.proofs.lemmas.List.Elements.{filter_map-append}
-use Rattle.std.proofs.lemmas.List.Sums.{sum_by-append, sum_by-cons}
+use Rattle.std.proofs.lemmas.List.Sums.{sum_by-append, sum_by-cons, sum_by_push}
 use Rattle.std.proofs.lemmas.Map.Keys.{ge_from_not_lt}
 use Rattle.mi_base.specs.declared.records.Row.{Row}
 use Rattle.mi_base.specs.Sorting.{Ascends, SameElements}
@@ -60,11 +60,13 @@ stops_up : (worst : Option ℕ) (low high : ℕ) → low ≤ high → StopsAt wo
 stops_up None low high le h = h
 stops_up (Some w) low high le h = omega arith
 
+stops_above : (worst : Option ℕ) (bound : ℕ) (rs : List Rank) → StopsAt worst bound → AllByRecursion (λ r. bound ≤ r.bound) rs → AllByRecursion (λ r. StopsAt worst r.bound) rs
+stops_above worst bound [] s h = tt
+stops_above worst bound (r ∷ rs) s h = (stops_up worst bound r.bound h.0 s, stops_above worst bound rs s h.1)
+
 -- where it stops at a rank it would at each later one
 pub stops_later : (worst : Option ℕ) (done : List Rank) (r : Rank) (rest : List Rank) → Ascends rank_cmp (done ++ r ∷ rest) → StopsAt worst r.bound → AllByRecursion (λ y. StopsAt worst y.bound) (r ∷ rest)
-stops_later worst done r rest a s =
-    let go : (ys : List Rank) → AllByRecursion (λ y. r.bound ≤ y.bound) ys → AllByRecursion (λ y. StopsAt worst y.bound) ys = elim [ [] ↦ λ h. tt | (y ∷ ys) ih ↦ λ h. (stops_up worst r.bound y.bound h.0 s, ih h.1) ] in
-    (s, go rest (above_first r rest (ascends_later done (r ∷ rest) a).0))
+stops_later worst done r rest a s = (s, stops_above worst r.bound rest s (above_first r rest (ascends_later done (r ∷ rest) a).0))
 
 -- the leaf of a rank
 at_one : (leaves : List Leaf) (r : Rank) (rs : List Rank) (leaf : Leaf) → slice_get leaves r.place ≡ Some leaf → leaves_at leaves (r ∷ rs) ≡ leaf ∷ leaves_at leaves rs
@@ -233,6 +235,10 @@ flat_sum {X = X} f g (x ∷ xs) = sum_by-append f (g x) (flat_map g xs) ∙ ap (
 pub same_flat : {X Y : Type 0} (g : X → List Y) (xs ys : List X) → SameElements xs ys → SameElements (flat_map g xs) (flat_map g ys)
 same_flat {X = X} g xs ys same = record { sums = λ f. flat_sum f g xs ∙ same.sums (λ (x : X). sum_by f (g x)) ∙ sym (flat_sum f g ys) }
 
+low_bounds : (k : ℕ) (rows before : List Row) (done : List Rank) → rows ≡ first_rows k before → AllByRecursion (λ r. nearer r.bound before < k) done → AllByRecursion (λ r. IfSome (kth_distance k rows) (λ w. r.bound ≤ w)) done
+low_bounds k rows before [] e few = tt
+low_bounds k rows before (r ∷ done) e few = (none_nearer_last k rows before r.bound e few.0, low_bounds k rows before done e few.1)
+
 -- what a walk that has ended leaves
 pub record Ended (dq : List ℕ) (k : ℕ) (leaves : List Leaf) (rows_of : Leaf → List Row) (ranks done : List Rank) (rows : List Row) : Type 0 where
   pub rows_are : rows ≡ first_rows k (rows_at leaves rows_of ranks)
@@ -243,8 +249,6 @@ pub walk_ends : (dq : List ℕ) (k : ℕ) (leaves : List Leaf) (rows_of : Leaf �
 walk_ends dq k leaves rows_of ranks done rest rows ranked parts apart stops walked =
     let worst = kth_distance k rows in
     let are = subst (AllByRecursion (IsRank dq leaves)) parts ranked.are in
-    let low : (ds : List Rank) → AllByRecursion (λ r. nearer r.bound (rows_at leaves rows_of done) < k) ds → AllByRecursion (λ r. IfSome worst (λ w. r.bound ≤ w)) ds =
-    elim [ [] ↦ λ h. tt | (r ∷ ds) ih ↦ λ h. (none_nearer_last k rows (rows_at leaves rows_of done) r.bound walked.rows_are h.0, ih h.1) ] in
     record {
       rows_are = rows_whole dq k leaves rows_of done rest rows apart (all_later (IsRank dq leaves) done rest are) stops walked ∙ ap (λ (rs : List Rank). first_rows k (rows_at leaves rows_of rs)) (sym parts);
       sums = λ f.
@@ -254,7 +258,46 @@ walk_ends dq k leaves rows_of ranks done rest rows ranked parts apart stops walk
           let all = ranked.all.sums h in
           let split = ap (sum_by h) (ap (leaves_at leaves) parts ∙ at_more leaves done rest) in
           let both = sum_by-append h (leaves_at leaves done) (leaves_at leaves rest) in
-          let first = sum_done dq worst leaves f done (all_earlier (IsRank dq leaves) done rest are) (low done walked.few) in
+          let first = sum_done dq worst leaves f done (all_earlier (IsRank dq leaves) done rest are) (low_bounds k rows (rows_at leaves rows_of done) done walked.rows_are walked.few) in
           let last = sum_rest dq worst leaves f rest (all_later (IsRank dq leaves) done rest are) stops in
           omega (arith, whole, all, split, both, first, last);
     }
+
+ones : {X : Type 0} (xs : List X) → sum_by (λ (x : X). 1) xs ≡ length xs
+ones [] = refl
+ones {X = X} (x ∷ xs) = omega (arith, sum_by-cons (λ (y : X). 1) x xs, ones xs)
+
+kept_few : {X : Type 0} (t : X → Bool) (xs : List X) → sum_by (λ (x : X). 1) (filter t xs) ≤ length xs
+kept_few t [] = omega arith
+kept_few {X = X} t (x ∷ xs) =
+    let rest = kept_few t xs in
+    let P : Bool → Type 0 = λ b. sum_by (λ (y : X). 1) (cond b (x ∷ filter t xs) (filter t xs)) ≤ suc (length xs) in
+    elim (t x) as P [ true ↦ omega (arith, sum_by-cons (λ (y : X). 1) x (filter t xs), rest) | false ↦ omega (arith, rest) ]
+
+-- no more were opened than there are leaves
+pub few_done : (dq : List ℕ) (leaves : List Leaf) (ranks done rest : List Rank) → IsRanked dq leaves ranks → ranks ≡ done ++ rest → sum_by (λ (l : Leaf). 1) (leaves_at leaves done) ≤ length leaves
+few_done dq leaves ranks done rest ranked parts =
+    let one : Leaf → ℕ = λ l. 1 in
+    omega (arith, ranked.all.sums one, kept_few (λ (l : Leaf). is_some l.hull) leaves, ap (sum_by one) (ap (leaves_at leaves) parts ∙ at_more leaves done rest),
+    sum_by-append one (leaves_at leaves done) (leaves_at leaves rest))
+
+next_rank : (done rest : List Rank) (d : Rank) → length done < length (done ++ rest) → (more : List Rank) × (rest ≡ slice_index_or (done ++ rest) (length done) d ∷ more)
+next_rank [] [] d h = absurd (omega arith)
+next_rank [] (r ∷ rest) d h = (rest, refl)
+next_rank (x ∷ done) rest d h = next_rank done rest d (omega arith)
+
+-- the rank that comes next
+pub next_at : (ranks done rest : List Rank) (i : ℕ) (d : Rank) → ranks ≡ done ++ rest → length done ≡ i → i < length ranks → (more : List Rank) × (rest ≡ slice_index_or ranks i d ∷ more)
+next_at ranks done rest i d parts place within =
+    let found = next_rank done rest d (omega (arith, ap length parts, place, within)) in
+    (found.0, found.1 ∙ ap (λ (n : ℕ). slice_index_or (done ++ rest) n d ∷ found.0) place ∙ ap (λ (xs : List Rank). slice_index_or xs i d ∷ found.0) (sym parts))
+
+-- none comes after all
+pub all_walked : (worst : Option ℕ) (done rest : List Rank) → length (done ++ rest) ≤ length done → AllByRecursion (λ r. StopsAt worst r.bound) rest
+all_walked worst done [] h = tt
+all_walked worst done (r ∷ rest) h = absurd (omega (arith, length-append done (r ∷ rest)))
+
+-- a sum over the leaves with the next one
+pub sum_next : (leaves : List Leaf) (f : Leaf → ℕ) (done : List Rank) (r : Rank) (leaf : Leaf) → slice_get leaves r.place ≡ Some leaf → sum_by f (leaves_at leaves (done ++ r ∷ [])) ≡ sum_by f (leaves_at leaves done) + f leaf
+sum_next leaves f done r leaf at =
+    ap (sum_by f) (at_more leaves done (r ∷ []) ∙ ap (λ ls. leaves_at leaves done ++ ls) (at_one leaves r [] leaf at)) ∙ sum_by_push f (leaves_at leaves done) leaf

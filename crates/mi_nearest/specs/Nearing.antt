@@ -1,5 +1,5 @@
 -- What a query for the nearest keeps of the entries that it is offered.
-use Rattle.std.specs.Prelude.{◌≡◌, ◌+◌, ◌≤◌, ◌++◌, ℕ, ℤ, List, Bool, true, length, map, take, Option, Some, None}
+use Rattle.std.specs.Prelude.{◌≡◌, ◌+◌, ◌≤◌, ◌++◌, ℕ, ℤ, List, Bool, false, true, length, map, nat_lt, take, Option, Some, None}
 use Rattle.mi_base.specs.declared.records.Row.{Row}
 use Rattle.mi_base.specs.History.{row_cmp, row_of}
 use Rattle.mi_base.specs.Sorting.{sorted}
@@ -21,6 +21,11 @@ first_rows count rows = take count (sorted row_cmp rows)
 -- the greatest distance kept, once there are as many rows as the query is for
 abbrev pub worst_of : Nearing → Option ℕ
 worst_of w = kth_distance w.count w.rows
+
+-- no leaf of such a bound has to be opened: there are rows enough, and the last of them is nearer
+abbrev pub stops_at : Option ℕ → ℕ → Bool
+stops_at None bound = false
+stops_at (Some worst) bound = nat_lt worst bound
 
 -- an object may still be among the nearest: there are too few rows, or the filter lets it through at the greatest distance kept
 abbrev pub may_be_near : Option ℕ → List ℕ → List ℕ → Bool

@@ -5,7 +5,7 @@ ghost use Rattle.mi_base.specs.History.{row_cmp};
 ghost use Rattle.mi_base.specs.Sorting.{put};
 ghost use Rattle.mi_key.specs.Entries.{offering_of};
 ghost use Rattle.mi_rules.specs.Answers.{Measured};
-ghost use Rattle.mi_nearest.specs.Nearing.{Takes, may_be_near, worst_of};
+ghost use Rattle.mi_nearest.specs.Nearing.{Takes, may_be_near, stops_at, worst_of};
 
 use mi_base::{Dists, NoMemory, Position, Reply, Row, Rows, Steps, Vector};
 use mi_key::Entry;
@@ -101,6 +101,16 @@ impl NearestWork {
         match self.rows.peek() {
             Some(row) => Some(row.distance),
             None => unreachable!(),
+        }
+    }
+
+    /// Whether no leaf of this bound has to be opened: there are as many rows as the query is for, and the last is nearer.
+    pub fn stops_at(&self, bound: u32) -> bool
+        ensures { result ≡ stops_at (worst_of self.now) bound }
+    {
+        match self.worst() {
+            None => false,
+            Some(worst) => worst < bound,
         }
     }
 

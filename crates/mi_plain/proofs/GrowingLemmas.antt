@@ -7,17 +7,17 @@ use Rattle.std.proofs.Math.ListN.{get_or-append}
 use Rattle.mi_base.specs.declared.records.LogEvent.{LogEvent}
 use Rattle.mi_base.specs.declared.records.LogEvent.TheVariants.{Update as Made, Split}
 use Rattle.mi_base.specs.declared.records.Op.{Op}
-use Rattle.mi_base.specs.declared.records.Op.TheVariants.{Insert, Delete, Range}
+use Rattle.mi_base.specs.declared.records.Op.TheVariants.{Insert, Delete, Range, Nearest}
 use Rattle.mi_base.specs.declared.records.Reply.{Reply}
 use Rattle.mi_base.specs.declared.records.Reply.TheVariants as reply
 use Rattle.mi_base.specs.declared.records.Position.{Position}
 use Rattle.mi_base.specs.declared.records.Row.{Row}
 use Rattle.mi_base.specs.Configuration.{Configuration, metric_space, space_of}
-use Rattle.mi_base.specs.History.{Entered, entered, updates_of, is_live, events_at, at_position, IsPosition, range_scan}
+use Rattle.mi_base.specs.History.{Entered, entered, updates_of, is_live, events_at, at_position, IsPosition, range_scan, nearest_scan}
 use Rattle.mi_base.proofs.HistoryLemmas.{entered-append, updates_of-append}
 use Rattle.mi_tree.specs.Legal.{events_to, reach}
-use Rattle.mi_tree.specs.Passing.{opened, candidates}
-use Rattle.mi_tree.specs.Right.{Right, IsUpdateNumber, IsRange, before}
+use Rattle.mi_tree.specs.Passing.{opened, candidates, kth_distance, reached}
+use Rattle.mi_tree.specs.Right.{Right, IsUpdateNumber, IsNearest, IsRange, before}
 use Rattle.mi_plain.specs.Answering.{Grows, GrowsBySplits}
 
 pub grows_none : (log : List LogEvent) → Grows log log
@@ -88,6 +88,16 @@ range_grows c log more radius query p rows cells distances h =
       distances_are = h.distances_are ∙ ap (λ l. length c.pivots + length (candidates (space_of c) c.levels l query radius)) same;
     }
 
+nearest_grows : (c : Configuration) (log more : List LogEvent) (count : ℕ) (query : List ℤ) (p : Position) (rows : List Row) (cells : ℕ)
+    → IsNearest c log count query p rows cells → IsNearest c (log ++ more) count query p rows cells
+nearest_grows c log more count query p rows cells h =
+    let same = sym (at_grows log more p h.position) in
+    record {
+      position = position_grows log more p h.position;
+      rows_are = h.rows_are ∙ ap (λ l. nearest_scan (metric_space c) (updates_of l) query count) same;
+      cells_are = h.cells_are ∙ ap (λ l. reached (space_of c) c.levels l query (kth_distance count rows)) same;
+    }
+
 pub right_grows : (c : Configuration) (log more : List LogEvent) (session op : ℕ) (o : Op) (y : Reply) → StaysFull c log more → Right c log session op o y → Right c (log ++ more) session op o y
 right_grows c log more session op (Insert id v) (reply.Stored n) stays h = (number_grows log more n _ h.0, ap (is_live id) (before_grows log more n _ h.0) ∙ h.1)
 right_grows c log more session op (Delete id) (reply.Removed n) stays h = (number_grows log more n _ h.0, ap (is_live id) (before_grows log more n _ h.0) ∙ h.1)
@@ -98,6 +108,7 @@ right_grows c log more session op (Insert id v) (reply.Full limit) stays h =
 right_grows c log more session op (Delete id) (reply.Full limit) stays h =
     let same = stays (h.1 ∙ h.0) in (h.0, ap length same ∙ h.1, ap (is_live id) same ∙ h.2)
 right_grows c log more session op (Range radius query) (reply.Range p rows cells distances) stays h = range_grows c log more radius query p rows cells distances h
+right_grows c log more session op (Nearest count query) (reply.Nearest p rows cells) stays h = nearest_grows c log more count query p rows cells h
 right_grows c log more session op o y stays h = h
 
 events_to_grows : (log more : List LogEvent) (n : ℕ) → n ≤ length (updates_of log) → events_to n (log ++ more) ≡ events_to n log

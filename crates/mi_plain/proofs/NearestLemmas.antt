@@ -1,8 +1,8 @@
 -- What a query for the nearest keeps of the leaves' entries is the scan.
-use Rattle.std.proofs.Common.{◌≡◌, ℕ, suc, zero, ℤ, ◌+◌, ◌<◌, ◌≤◌, ◌^◌, List, [], ◌∷◌, ◌++◌, map, length, Bool, true, false, cond, ◌&&◌, IsTrue, nat_le, refl, sym, ap, ◌∙◌, subst, arith, append_assoc, append-nil, length-append, Option, Some, None}
-use Rattle.std.specs.Prelude.{is_some, slice_get}
+use Rattle.std.proofs.Common.{◌≡◌, ℕ, suc, zero, ℤ, ◌+◌, ◌<◌, ◌≤◌, ◌^◌, List, [], ◌∷◌, ◌++◌, map, length, Bool, true, false, cond, ◌&&◌, IsTrue, nat_le, refl, sym, ap, ◌∙◌, subst, arith, append_assoc, append-nil, length-append, zero-add, Option, Some, None}
+use Rattle.std.specs.Prelude.{IfSome, is_some, slice_get}
 use Rattle.std.specs.List.{AllByRecursion, filter, flat_map, sum_by}
-use Rattle.std.proofs.lemmas.Bool.{false≢true, leb-false, leb-true}
+use Rattle.std.proofs.lemmas.Bool.{false≢true, leb-false, leb-true, ltb-false, ltb-true}
 use Rattle.std.proofs.lemmas.List.{length-map}
 use Rattle.std.proofs.lemmas.List.Elements.{recursion_from_All}
 use Rattle.std.proofs.lemmas.List.Sums.{sum_by-append, sum_by-cons}
@@ -14,7 +14,8 @@ use Rattle.mi_base.specs.declared.records.Row.{Row}
 use Rattle.mi_base.specs.Configuration.{Configuration, IsWithinLimits, metric_space, space_of}
 use Rattle.mi_base.specs.History.{Object, end_of, entered, live, nearest_scan, row_of, updates_of}
 use Rattle.mi_base.specs.Permutations.{begins, distances, key_distance}
-use Rattle.mi_base.specs.Sorting.{SameElements}
+use Rattle.mi_base.specs.Prefixes.{all_below}
+use Rattle.mi_base.specs.Sorting.{Ascends, SameElements}
 use Rattle.mi_base.specs.Space.{IsMetric}
 use Rattle.mi_base.proofs.SortingLemmas.{filter_keeps, same_filter, same_length, same_map, same_trans}
 use Rattle.mi_board.proofs.BoardLemmas.{is_grid}
@@ -26,10 +27,10 @@ use Rattle.mi_key.specs.Keys.{parts_of}
 use Rattle.mi_key.specs.Ranges.{is_within}
 use Rattle.mi_key.proofs.ClusterLemmas.{cluster-exact}
 use Rattle.mi_nearest.specs.declared.order.Rank.{Rank}
-use Rattle.mi_nearest.specs.Order.{IsRanked, leaves_at}
-use Rattle.mi_nearest.specs.Nearing.{Nearing, Takes, first_rows, worst_of}
+use Rattle.mi_nearest.specs.Order.{IsRank, IsRanked, leaves_at, rank_cmp}
+use Rattle.mi_nearest.specs.Nearing.{Nearing, Takes, first_rows, stops_at, worst_of}
 use Rattle.mi_nearest.proofs.FirstLemmas.{first_of_same}
-use Rattle.mi_nearest.proofs.WalkLemmas.{NoNearer, StopsAt, Walked, all_at, far_out, same_flat, walk_ends}
+use Rattle.mi_nearest.proofs.WalkLemmas.{NoNearer, StopsAt, Walked, all_at, all_later, below_next, far_out, rows_at, same_flat, walk_ends, walked_more}
 use Rattle.mi_rules.specs.Answers.{IsAnswer, MayHold}
 use Rattle.mi_rules.specs.Spans.{is_near}
 use Rattle.mi_rules.proofs.RuleLemmas.{answer_bound, answer_near, hull_near, near_cluster}
@@ -37,12 +38,12 @@ use Rattle.mi_tree.specs.declared.outcomes.Leaf.{Leaf}
 use Rattle.mi_tree.specs.Cells.{depth, leaf_of, leaves}
 use Rattle.mi_tree.specs.Counting.{belongs, held, in_hull, leaf_with}
 use Rattle.mi_tree.specs.Legal.{LegalLog, cells_of}
-use Rattle.mi_tree.specs.Passing.{IsBound, kth_distance, reached, reached_objects}
+use Rattle.mi_tree.specs.Passing.{IsBound, hull_passes, kth_distance, reached, reached_objects}
 use Rattle.mi_tree.proofs.CatLemmas.{held_live}
 use Rattle.mi_tree.proofs.FitLemmas.{Fits, leaves_fit}
 use Rattle.mi_tree.proofs.LeafLemmas.{begins_take, one_leaf}
 use Rattle.mi_tree.proofs.LegalLemmas.{all_may}
-use Rattle.mi_tree.proofs.ListLemmas.{all_any, all_map, filter_map, map_twice}
+use Rattle.mi_tree.proofs.ListLemmas.{all_any, all_map, all_weaker, filter_map, map_twice}
 use Rattle.mi_plain.specs.Answering.{Answers}
 use Rattle.mi_plain.specs.Opening.{offerings, spanned}
 use Rattle.mi_plain.specs.Plain.{IsKept, grid_for, object_in}
@@ -50,6 +51,15 @@ use Rattle.mi_plain.proofs.KeyLemmas.{distance_fits}
 use Rattle.mi_plain.proofs.RangeLemmas.{at_end, end_events, end_is, objects_offered}
 use Rattle.mi_plain.proofs.SpanLemmas.{Covered, all_covered, cluster_is, own_empty, own_fits}
 use Rattle.mi_plain.proofs.SummingLemmas.{one_passes, sum_both, sum_none, sum_same, weigh, weigh_one}
+
+-- the walk goes on at a bound that isn't greater than the last row's distance, and stops at one that is
+pub goes_on : (worst : Option ℕ) (bound : ℕ) → stops_at worst bound ≡ false → IfSome worst (λ w. bound ≤ w)
+goes_on None bound e = tt
+goes_on (Some w) bound e = ltb-false w bound e
+
+pub stops_here : (worst : Option ℕ) (bound : ℕ) → stops_at worst bound ≡ true → StopsAt worst bound
+stops_here None bound e = absurd (false≢true e)
+stops_here (Some w) bound e = ltb-true w bound e
 
 -- the rows of the objects that belong to a leaf
 abbrev pub rows_in : Configuration → List ℤ → List (ℕ × Entry) → Leaf → List Row
@@ -69,7 +79,7 @@ rows_sum c query f leaf (e ∷ es) =
     let P : Bool → Type 0 = λ b. sum_by f (map row (cond b (object_in e ∷ filter T (map object_in es)) (filter T (map object_in es)))) ≡ cond b (f (row (object_in e))) 0 + sum_by h es in
     (elim (owns c e leaf) as P [
       | true ↦ sum_by-cons f (row (object_in e)) (rows_in c query es leaf) ∙ ap (λ n. f (row (object_in e)) + n) (rows_sum c query f leaf es)
-      | false ↦ rows_sum c query f leaf es
+      | false ↦ rows_sum c query f leaf es ∙ sym (zero-add (sum_by h es))
     ]) ∙ sym (sum_by-cons h e es)
 
 -- a sum over the rows of leaves has each entry as often as it belongs to one
@@ -132,8 +142,11 @@ module _ (c : Configuration) (limits : IsWithinLimits c) (log : List LogEvent) (
       let rest = none_nearer_in p bound b es kept.1 covered.1 in
       let P : Bool → Type 0 = λ t. T (object_in e) ≡ t → AllByRecursion (λ (r : Row). bound ≤ r.distance) (map row (cond t (object_in e ∷ filter T (map object_in es)) (filter T (map object_in es)))) in
       (elim (T (object_in e)) as P [
-        | true ↦ λ t. (answer_bound (space_of c) query e.1.vector ((metric_space c).d query e.1.vector) (answer_at e kept.0 ((metric_space c).d query e.1.vector) (omega arith))
-            (leaf_with (grid_for c) (held (grid_for c) log) p) (may_hold e covered.0 p t) bound b, rest)
+        | true ↦ λ t. (
+          answer_bound (space_of c) query e.1.vector ((metric_space c).d query e.1.vector) (answer_at e kept.0 ((metric_space c).d query e.1.vector) (omega arith))
+              (leaf_with (grid_for c) (held (grid_for c) log) p) (may_hold e covered.0 p t) bound b,
+          rest,
+        )
         | false ↦ λ t. rest
       ]) refl
 
@@ -174,9 +187,11 @@ module _ (c : Configuration) (limits : IsWithinLimits c) (log : List LogEvent) (
   all_rows es same =
       let row = row_of (metric_space c) query in
       let cells = filter (λ (l : Leaf). is_some l.hull) (cells_of c log) in
-      let once : SameElements (flat_map (rows_in c query es) cells) (map row (map object_in es)) = record { sums = λ f.
-      flat_rows_sum c query f es cells
-      ∙ sum_same (λ (e : ℕ × Entry). weigh (owns c e) (f (row (object_in e))) cells) (λ (e : ℕ × Entry). f (row (object_in e))) es (all_owned f es (all_covered c log es same)) ∙ mapped_sum c query f es } in
+      let once : SameElements (flat_map (rows_in c query es) cells) (map row (map object_in es)) = record {
+        sums = λ f.
+            flat_rows_sum c query f es cells
+            ∙ sum_same (λ (e : ℕ × Entry). weigh (owns c e) (f (row (object_in e))) cells) (λ (e : ℕ × Entry). f (row (object_in e))) es (all_owned f es (all_covered c log es same)) ∙ mapped_sum c query f es;
+      } in
       same_trans once (same_map row (map object_in es) (live (updates_of log)) same)
 
   -- a leaf counts the rows of its objects
@@ -257,21 +272,21 @@ module _ (c : Configuration) (limits : IsWithinLimits c) (log : List LogEvent) (
       let Q : Bool → Bool → Type 0 = λ a b. T o ≡ a → is_within span e.1.key ≡ b → Parts worst (map row (cond a (o ∷ F) F)) (map row (map object_in (cond b (e ∷ sp) sp))) in
       let go : (a b : Bool) → Q a b = elim [
         | true ↦ elim [
-            | true ↦ λ t u. record {
-                far = ih.far;
-                same = record { sums = λ f. omega (arith, sum_by-cons f (row o) (map row F), ih.same.sums f, sum_by-append f ih.far (row o ∷ S), sum_by-cons f (row o) S, sum_by-append f ih.far S) };
-                all_far = ih.all_far;
-              }
-            | false ↦ λ t u. record {
-                far = row o ∷ ih.far;
-                same = record { sums = λ f. omega (arith, sum_by-cons f (row o) (map row F), ih.same.sums f, sum_by-cons f (row o) (ih.far ++ S)) };
-                all_far = (unread_far e kept.0 covered.0 p cell hull has worst t (sym (within e.1.key) ∙ u), ih.all_far);
-              }
-          ]
+          | true ↦ λ t u. record {
+            far = ih.far;
+            same = record { sums = λ f. omega (arith, sum_by-cons f (row o) (map row F), ih.same.sums f, sum_by-append f ih.far (row o ∷ S), sum_by-cons f (row o) S, sum_by-append f ih.far S) };
+            all_far = ih.all_far;
+          }
+          | false ↦ λ t u. record {
+            far = row o ∷ ih.far;
+            same = record { sums = λ f. omega (arith, sum_by-cons f (row o) (map row F), ih.same.sums f, sum_by-cons f (row o) (ih.far ++ S)) };
+            all_far = (unread_far e kept.0 covered.0 p cell hull has worst t (sym (within e.1.key) ∙ u), ih.all_far);
+          }
+        ]
         | false ↦ elim [
-            | true ↦ λ t u. absurd (false≢true (sym t ∙ read_belongs e kept.0 p cell.fit worst hull (sym (within e.1.key) ∙ u)))
-            | false ↦ λ t u. ih
-          ]
+          | true ↦ λ t u. absurd (false≢true (sym t ∙ read_belongs e kept.0 p cell.fit worst hull (sym (within e.1.key) ∙ u)))
+          | false ↦ λ t u. ih
+        ]
       ] in
       go (T o) (is_within span e.1.key) refl refl
 
@@ -297,13 +312,14 @@ module _ (c : Configuration) (limits : IsWithinLimits c) (log : List LogEvent) (
       let S = map row (map object_in sp) in
       let parts = read_parts p cell hull has (worst_of w) span within es kept (all_covered c log es same) in
       let offered : map (λ (o : Offering). row o.object) (offerings sp) ≡ S = offered_rows sp (filter_keeps (λ (x : ℕ × Entry). IsKept c log x.0 x.1) (λ (x : ℕ × Entry). is_within span x.1.key) es kept) in
-      let more : SameElements ((before ++ parts.far) ++ S) (before ++ rows) = record { sums = λ f.
-      omega (arith, sum_by-append f (before ++ parts.far) S, sum_by-append f before parts.far, sum_by-append f before rows, parts.same.sums f, sum_by-append f parts.far S) } in
+      let more : SameElements ((before ++ parts.far) ++ S) (before ++ rows) = record {
+        sums = λ f.
+            omega (arith, sum_by-append f (before ++ parts.far) S, sum_by-append f before parts.far, sum_by-append f before rows, parts.same.sums f, sum_by-append f parts.far S);
+      } in
       let size = same_length rows (parts.far ++ S) parts.same in
-      let many : length S ≡ length (offerings sp) = ap length (sym offered) ∙ length-map (offerings sp) (λ (o : Offering). row o.object) in
-      (
+      let many : length S ≡ length (offerings sp) = ap length (sym offered) ∙ length-map (offerings sp) (λ (o : Offering). row o.object) in (
         takes.rows_are (before ++ parts.far) (far_out w.count w.rows before parts.far e parts.all_far) ∙ ap (λ (xs : List Row). first_rows w.count ((before ++ parts.far) ++ xs)) offered
-        ∙ first_of_same w.count ((before ++ parts.far) ++ S) (before ++ rows) more,
+            ∙ first_of_same w.count ((before ++ parts.far) ++ S) (before ++ rows) more,
         omega (arith, takes.ticks, many, size, length-append parts.far S, rows_counted es same p),
       )
 
@@ -314,15 +330,20 @@ module _ (c : Configuration) (limits : IsWithinLimits c) (log : List LogEvent) (
       let ok = is_grid c limits log legal in
       let may = all_may c log legal in
       let F = Fits (length c.pivots) c.levels in
-      let found = mapped_at (leaf_with g (held g log)) (leaves g log) i leaf at in
-      (found.0, (found.1.1, record {
-        fit = all_at F (leaves g log) i found.0 (recursion_from_All F (leaves g log) (leaves_fit g ok log may)) found.1.0;
-        only = λ v.
-            let perm = g.perm v in
-            let own = leaf_of g log perm in
-            let O : List ℕ → Type 0 = λ q. begins q perm ≡ true → q ≡ own in
-            all_at O (leaves g log) i found.0 (one_passes (λ (q : List ℕ). begins q perm) own (leaves g log) (one_leaf g perm (ok.perms v).0 (ok.perms v).1 ok log may)) found.1.0;
-      }))
+      let found = mapped_at (leaf_with g (held g log)) (leaves g log) i leaf at in (
+        found.0,
+        (
+          found.1.1,
+          record {
+            fit = all_at F (leaves g log) i found.0 (recursion_from_All F (leaves g log) (leaves_fit g ok log may)) found.1.0;
+            only = λ v.
+                let perm = g.perm v in
+                let own = leaf_of g log perm in
+                let O : List ℕ → Type 0 = λ q. begins q perm ≡ true → q ≡ own in
+                all_at O (leaves g log) i found.0 (one_passes (λ (q : List ℕ). begins q perm) own (leaves g log) (one_leaf g perm (ok.perms v).0 (ok.perms v).1 ok log may)) found.1.0;
+          },
+        ),
+      )
 
   -- a walk that has ended has the answer, and took no more steps than the leaves that had to be opened have objects
   pub nearest_answered : (es : List (ℕ × Entry)) → AllByRecursion (λ e. IsKept c log e.0 e.1) es → SameElements (map object_in es) (live (updates_of log)) → (count : ℕ) (ranks done rest : List Rank) (rows : List Row)
@@ -342,8 +363,7 @@ module _ (c : Configuration) (limits : IsWithinLimits c) (log : List LogEvent) (
       ended.rows_are ∙ first_of_same count (flat_map (rows_in c query es) (leaves_at cells ranks)) all
       (same_trans (same_flat (rows_in c query es) (leaves_at cells ranks) (filter (λ (l : Leaf). is_some l.hull) cells) ranked.all) (all_rows es same)) in
       let counted : opened ≡ reached (space_of c) c.levels log query worst = opened_is ∙ sym (ended.sums (λ (l : Leaf). 1)) in
-      let P : Position → Type 0 = λ p. Answers c log 0 op (Op.Nearest count query) (Reply.Nearest p rows opened) log in
-      (
+      let P : Position → Type 0 = λ p. Answers c log 0 op (Op.Nearest count query) (Reply.Nearest p rows opened) log in (
         subst P (sym at_is) (record {
           grows = record { by = []; is = sym (append-nil log) };
           enters = sym (append-nil (entered log));
@@ -357,3 +377,58 @@ module _ (c : Configuration) (limits : IsWithinLimits c) (log : List LogEvent) (
         }),
         omega (arith, few, ended.sums (λ (l : Leaf). l.count)),
       )
+
+  -- the prefixes of all cells are of pivots that there are
+  pub cells_below : (n : ℕ) → n ≡ length c.pivots → (ls : List Leaf) → ls ≡ cells_of c log → AllByRecursion (λ leaf. IsTrue (all_below n leaf.prefix)) ls
+  cells_below n n_is ls ls_are =
+      let g = grid_for c in
+      let B : Leaf → Type 0 = λ leaf. IsTrue (all_below n leaf.prefix) in
+      let F = Fits (length c.pivots) c.levels in
+      let fit : AllByRecursion F (leaves g log) = recursion_from_All F (leaves g log) (leaves_fit g (is_grid c limits log legal) log (all_may c log legal)) in
+      let low : AllByRecursion (λ (p : List ℕ). B (leaf_with g (held g log) p)) (leaves g log) =
+      all_weaker F (λ (p : List ℕ). B (leaf_with g (held g log) p)) (λ p f. subst (λ (k : ℕ). IsTrue (all_below k p)) (sym n_is) f.1) (leaves g log) fit in
+      subst (AllByRecursion B) (sym ls_are) (all_map (leaf_with g (held g log)) B (leaves g log) low)
+
+  -- one leaf more was opened
+  pub record Opened (es : List (ℕ × Entry)) (count : ℕ) (done : List Rank) (r : Rank) (leaf : Leaf) (rows : List Row) (n k : ℕ) : Type 0 where
+    pub walked : Walked count (cells_of c log) (rows_in c query es) (done ++ r ∷ []) rows
+    pub few : k ≤ n + leaf.count
+
+  pub walk_step : (es : List (ℕ × Entry)) → AllByRecursion (λ e. IsKept c log e.0 e.1) es → SameElements (map object_in es) (live (updates_of log)) → (count : ℕ) → 1 ≤ count → (ranks done rest : List Rank) (r : Rank)
+      → IsRanked (distances (space_of c) query) (cells_of c log) ranks → ranks ≡ done ++ r ∷ rest → (leaf : Leaf) → slice_get (cells_of c log) r.place ≡ Some leaf → (w v : Nearing) (n k : ℕ) (span : Interval) → w.count ≡ count
+      → Walked count (cells_of c log) (rows_in c query es) done w.rows → IfSome (kth_distance count w.rows) (λ worst. r.bound ≤ worst)
+      → IfSome leaf.hull (λ hull. (key : ℕ) → is_within span key ≡ is_near (distances (space_of c) query) (kth_distance count w.rows) c.levels leaf.prefix hull (parts_of key))
+      → Takes (metric_space c) query w n (offerings (spanned span es)) v k → Opened es count done r leaf v.rows n k
+  walk_step es kept same count one ranks done rest r ranked parts leaf at w v n k span count_is walked next read takes =
+      let g = grid_for c in
+      let cells = cells_of c log in
+      let dq = distances (space_of c) query in
+      let apart = none_nearer_cells es kept same in
+      let is : IsRank dq cells r = (all_later (IsRank dq cells) done (r ∷ rest) (subst (AllByRecursion (IsRank dq cells)) parts ranked.are)).0 in
+      let found = cell_at r.place leaf at in
+      let p = found.0 in
+      let mine : is.leaf ≡ leaf = (let both = sym is.stands ∙ at in cc) in
+      let low = below_next done r rest (subst (Ascends rank_cmp) parts ranked.ascend) in
+      let before = rows_at cells (rows_in c query es) done in
+      let first : w.rows ≡ first_rows w.count before = walked.rows_are ∙ ap (λ (x : ℕ). first_rows x before) (sym count_is) in
+      let R : Option (ℕ × ℕ) → Type 0 = λ o. leaf.hull ≡ o
+      → IfSome o (λ hull. (key : ℕ) → is_within span key ≡ is_near dq (kth_distance count w.rows) c.levels leaf.prefix hull (parts_of key)) → Opened es count done r leaf v.rows n k in
+      let passed : hull_passes dq r.bound is.leaf.prefix is.leaf.hull ≡ true = is.bound_is.0 in
+      let go : (o : Option (ℕ × ℕ)) → R o = elim [
+        | None ↦ λ e within. absurd (false≢true (ap (hull_passes dq r.bound is.leaf.prefix) (sym e ∙ ap (λ (l : Leaf). l.hull) (sym mine)) ∙ passed))
+        | Some hull ↦ λ e within.
+            let has : (leaf_with g (held g log) p).hull ≡ Some hull = ap (λ (l : Leaf). l.hull) (sym found.1.0) ∙ e in
+            let same_prefix : leaf.prefix ≡ p = ap (λ (l : Leaf). l.prefix) found.1.0 in
+            let reads : (key : ℕ) → is_within span key ≡ is_near dq (worst_of w) c.levels p hull (parts_of key) = λ key.
+            within key ∙ ap (λ (x : List ℕ). is_near dq (kth_distance count w.rows) c.levels x hull (parts_of key)) same_prefix
+            ∙ ap (λ (x : ℕ). is_near dq (kth_distance x w.rows) c.levels p hull (parts_of key)) (sym count_is) in
+            let opened = opened_leaf es kept same p found.1.1 hull has span w v n k reads takes before first in
+            let rows : v.rows ≡ first_rows count (before ++ rows_in c query es is.leaf) =
+            opened.0 ∙ ap (λ (x : ℕ). first_rows x (before ++ rows_in c query es (leaf_with g (held g log) p))) count_is
+            ∙ ap (λ (l : Leaf). first_rows count (before ++ rows_in c query es l)) (sym found.1.0 ∙ sym mine) in
+            record {
+              walked = walked_more dq count cells (rows_in c query es) done w.rows v.rows r is one (all_at (NoNearer dq (rows_in c query es)) cells r.place is.leaf apart is.stands) low next walked rows;
+              few = omega (arith, opened.1, ap (λ (l : Leaf). l.count) found.1.0);
+            }
+      ] in
+      go leaf.hull refl read

@@ -249,13 +249,12 @@ impl Plain {
         let mut work = NearestWork::new(alloc, count, &dists);
         let mut opened = 0;
         for rank in ranks.iter() {
-            let worst = work.worst();
-            if worst.is_some_and(|worst| worst < rank.bound) {
+            if work.stops_at(rank.bound) {
                 break;
             }
             opened += 1;
             let leaf = catalog.leaf(rank.place);
-            let Some(span) = near_span(leaf, &dists, worst, self.levels) else {
+            let Some(span) = near_span(leaf, &dists, work.worst(), self.levels) else {
                 unreachable!();
             };
             let Ok(()) = offer_nearest(&self.entries, &span, &mut work, metric, query, steps) else {

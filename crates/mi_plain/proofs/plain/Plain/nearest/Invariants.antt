@@ -1,4 +1,4 @@
-use Rattle.std.proofs.Common.{◌≡◌, ◌+◌, ◌≤◌, ◌++◌, List}
+use Rattle.std.proofs.Common.{◌≡◌, ◌+◌, ◌≤◌, ◌++◌, List, length}
 use Rattle.std.specs.List.{sum_by}
 use Rattle.mi_tree.specs.declared.outcomes.Leaf.{Leaf}
 use Rattle.mi_tree.specs.Legal.{cells_of}
@@ -14,8 +14,10 @@ invariant-loop-rank g l =
     let cells = cells_of l.self.settings l.self.log in
     record {
       done : List Rank;
-      parts : l.ranks.items ≡ done ++ l.rank-iterator;
-      walked : Walked l.count cells (rows_in l.self.settings l.query l.entries.entries) done l.work.rows;
+      rest : List Rank;
+      parts : l.rank-items ≡ done ++ rest;
+      place : length done ≡ l.rank-index;
+      walked : Walked l.count cells (rows_in l.self.settings l.query l.self-inside.entries.entries) done l.work.rows;
       same_dists : l.work.dists ≡ l.initial.work.dists;
       same_count : l.work.count ≡ l.initial.work.count;
       counted : l.opened ≡ sum_by (λ (leaf : Leaf). 1) (leaves_at cells done);
