@@ -1,5 +1,7 @@
 //! Tests of the command, from the bytes of its files to the bytes of its text.
 
+mod nearest;
+mod queries;
 mod workloads;
 
 use crate::adapters::{RealFiles, RealOut};

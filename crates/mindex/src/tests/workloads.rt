@@ -5,60 +5,92 @@ use crate::replaying::replay_call;
 use mi_outside::MemorySink;
 use std::alloc::Global;
 use std::collections::BTreeMap;
+use std::process::Abort;
 use std::test::Fail;
 
 /// Settings of the plane, with fewer than ten pivots.
-struct Setting {
-    pivots: &'static [[i64; 2]],
+pub(super) struct Setting {
+    pub(super) pivots: &'static [[i64; 2]],
     levels: usize,
     cell: usize,
     updates: u64,
 }
 
+/// A live object.
+#[derive(Drop)]
+pub(super) struct Placed {
+    pub(super) point: [i64; 2],
+    /// The distance to its first pivot, or 0 without pivots.
+    key: i64,
+    pub(super) permutation: String,
+}
+
+/// The least and the greatest key distance of the objects that were put into a leaf, where there was one.
+pub(super) type Hull = Option<(i64, i64)>;
+
 /// What the definitions say of an index. Prefixes and permutations are texts of one digit for each pivot with points between them,
 /// so that a prefix begins a permutation as text, and the order of prefixes is that of their texts.
 #[derive(Drop)]
-struct Scans<'a> {
-    setting: &'a Setting,
-    /// The permutation of each live object.
-    objects: BTreeMap<u64, String>,
-    leaves: Vec<String>,
+pub(super) struct Scans<'a> {
+    pub(super) setting: &'a Setting,
+    pub(super) objects: BTreeMap<u64, Placed>,
+    pub(super) leaves: BTreeMap<String, Hull>,
     unswept: u64,
-    updates: u64,
-    splits: u64,
+    pub(super) updates: u64,
+    pub(super) splits: u64,
     replies: String,
     events: String,
 }
 
-/// The pivots' numbers by distance, then number.
-fn permutation(alloc: Global, pivots: &[[i64; 2]], object: [i64; 2]) -> Result<String, Fail> {
+/// The sum of the absolute coordinate differences.
+pub(super) fn distance(one: [i64; 2], other: [i64; 2]) -> i64 {
+    let across = one[0].saturating_sub(other[0]).saturating_abs();
+    let along = one[1].saturating_sub(other[1]).saturating_abs();
+    across.saturating_add(along)
+}
+
+/// An object with the pivots' numbers by distance, then number.
+fn place(alloc: Global, pivots: &[[i64; 2]], point: [i64; 2]) -> Result<Placed, Fail> {
     let mut order = Vec::new(alloc);
     for (number, pivot) in pivots.iter().enumerate() {
-        let distance = pivot[0]
-            .abs_diff(object[0])
-            .saturating_add(pivot[1].abs_diff(object[1]));
-        order.push((distance, number))?;
+        order.push((distance(*pivot, point), number))?;
     }
     order.sort()?;
-    let mut text = String::new(alloc);
+    let key = match order.first() {
+        Some((least, _)) => *least,
+        None => 0,
+    };
+    let mut permutation = String::new(alloc);
     for (_, number) in order.as_slice() {
         let digit = format!(in alloc; "{number}")?;
-        if !text.is_empty() {
-            text.push_str(".")?;
+        if !permutation.is_empty() {
+            permutation.push_str(".")?;
         }
-        text.push_str(digit.as_str())?;
+        permutation.push_str(digit.as_str())?;
     }
-    Ok(text)
+    Ok(Placed {
+        point,
+        key,
+        permutation,
+    })
+}
+
+/// The hull with one more key distance in it.
+fn widened(hull: Hull, key: i64) -> Hull {
+    match hull {
+        Some((low, high)) => Some((low.min(key), high.max(key))),
+        None => Some((key, key)),
+    }
 }
 
 impl<'a> Scans<'a> {
-    fn new(alloc: Global, setting: &'a Setting) -> Result<Scans<'a>, Fail> {
-        let mut leaves = Vec::new(alloc);
+    pub(super) fn new(alloc: Global, setting: &'a Setting) -> Result<Scans<'a>, Fail> {
+        let mut leaves = BTreeMap::new(alloc);
         if setting.pivots.is_empty() {
-            leaves.push(String::new(alloc))?;
+            leaves.insert(String::new(alloc), None)?;
         }
         for pivot in 0..setting.pivots.len() {
-            leaves.push(format!(in alloc; "{pivot}")?)?;
+            leaves.insert(format!(in alloc; "{pivot}")?, None)?;
         }
         Ok(Scans {
             setting,
@@ -75,12 +107,23 @@ impl<'a> Scans<'a> {
     /// How many live objects belong to the leaf.
     fn count(&self, leaf: &str) -> usize {
         let mut count = 0usize;
-        for perm in self.objects.values() {
-            if perm.as_str().starts_with(leaf) {
+        for placed in self.objects.values() {
+            if placed.permutation.as_str().starts_with(leaf) {
                 count = count.saturating_add(1);
             }
         }
         count
+    }
+
+    /// The least hull of the live objects that belong to the leaf.
+    fn live_hull(&self, leaf: &str) -> Hull {
+        let mut hull = None;
+        for placed in self.objects.values() {
+            if placed.permutation.as_str().starts_with(leaf) {
+                hull = widened(hull, placed.key);
+            }
+        }
+        hull
     }
 
     /// The first leaf above the greatest depth that has so many objects, of those that begin the permutation, where one is given.
@@ -90,7 +133,7 @@ impl<'a> Scans<'a> {
         least: usize,
         perm: Option<&str>,
     ) -> Result<Option<String>, Fail> {
-        for leaf in self.leaves.as_slice() {
+        for leaf in self.leaves.keys() {
             let text = leaf.as_str();
             let begins = match perm {
                 Some(perm) => perm.starts_with(text),
@@ -106,19 +149,29 @@ impl<'a> Scans<'a> {
 
     /// Puts the children of a leaf in its place.
     fn split(&mut self, alloc: Global, leaf: &str) -> Result<(), Fail> {
-        self.leaves.retain(|other| other.as_str() != leaf);
+        self.leaves.remove(leaf);
         for pivot in 0..self.setting.pivots.len() {
             let digit = format!(in alloc; "{pivot}")?;
             if !leaf.contains(digit.as_str()) {
-                self.leaves.push(format!(in alloc; "{leaf}.{pivot}")?)?;
+                let child = format!(in alloc; "{leaf}.{pivot}")?;
+                let hull = self.live_hull(child.as_str());
+                self.leaves.insert(child, hull)?;
             }
         }
-        self.leaves.sort()?;
         self.splits = self.splits.saturating_add(1);
         self.unswept = self.unswept.saturating_add(1);
         let line = format!(in alloc; "split,{leaf}\n")?;
         self.events.push_str(line.as_str())?;
         Ok(())
+    }
+
+    /// Widens the hull of the leaf of an object.
+    fn widen(&mut self, placed: &Placed) {
+        for (leaf, hull) in &mut self.leaves {
+            if placed.permutation.as_str().starts_with(leaf.as_str()) {
+                *hull = widened(*hull, placed.key);
+            }
+        }
     }
 
     /// One step of the splitter. False where nothing is left to do.
@@ -139,14 +192,15 @@ impl<'a> Scans<'a> {
 
     /// Enters an insert, before which leaves are split that have four times as many objects as they should.
     fn insert(&mut self, alloc: Global, op: u64, id: u64, object: [i64; 2]) -> Result<(), Fail> {
-        let perm = permutation(alloc, self.setting.pivots, object)?;
+        let placed = place(alloc, self.setting.pivots, object)?;
         let least = self.setting.cell.saturating_mul(4);
         for _ in 0..self.setting.levels {
-            if let Some(leaf) = self.first_leaf(alloc, least, Some(perm.as_str()))? {
+            if let Some(leaf) = self.first_leaf(alloc, least, Some(placed.permutation.as_str()))? {
                 self.split(alloc, leaf.as_str())?;
             }
         }
-        self.objects.insert(id, perm)?;
+        self.widen(&placed);
+        self.objects.insert(id, placed)?;
         let [x, y] = object;
         let line = format!(in alloc; "insert,0,{op},{id},{x},{y}\n")?;
         self.events.push_str(line.as_str())?;
@@ -154,7 +208,7 @@ impl<'a> Scans<'a> {
     }
 
     /// Makes one operation, an insert where there is an object and else a delete, and then one step of the splitter.
-    fn make(
+    pub(super) fn make(
         &mut self,
         alloc: Global,
         op: u64,
@@ -184,13 +238,18 @@ impl<'a> Scans<'a> {
                 format!(in alloc; "removed,{next}\n")?
             }
         };
-        self.replies.push_str(reply.as_str())?;
+        self.reply(alloc, reply.as_str())
+    }
+
+    /// Ends an operation with its reply, and makes one step of the splitter.
+    pub(super) fn reply(&mut self, alloc: Global, lines: &str) -> Result<(), Fail> {
+        self.replies.push_str(lines)?;
         self.step(alloc)?;
         Ok(())
     }
 
     /// The whole transcript, once the splitter has nothing left to do.
-    fn finish(mut self, alloc: Global) -> Result<String, Fail> {
+    pub(super) fn finish(mut self, alloc: Global) -> Result<String, Fail> {
         for _ in 0..10_000 {
             if !self.step(alloc)? {
                 break;
@@ -210,7 +269,7 @@ impl<'a> Scans<'a> {
         text.push_str(self.events.as_str())?;
         let head = format!(in alloc; "cells,{cells}\n")?;
         text.push_str(head.as_str())?;
-        for leaf in self.leaves.as_slice() {
+        for leaf in self.leaves.keys() {
             let count = self.count(leaf.as_str());
             let name = if leaf.is_empty() { "-" } else { leaf.as_str() };
             let line = format!(in alloc; "{name},{count}\n")?;
@@ -223,7 +282,7 @@ impl<'a> Scans<'a> {
 }
 
 /// The settings as a file.
-fn settings_text(alloc: Global, setting: &Setting) -> Result<String, Fail> {
+pub(super) fn settings_text(alloc: Global, setting: &Setting) -> Result<String, Fail> {
     let mut text = String::from_str(alloc, "metric,l1\ndims,2\n")?;
     for [x, y] in setting.pivots {
         let line = format!(in alloc; "pivot,{x},{y}\n")?;
@@ -240,15 +299,20 @@ fn settings_text(alloc: Global, setting: &Setting) -> Result<String, Fail> {
     Ok(text)
 }
 
+/// The next number of a fixed rule.
+pub(super) fn advance(state: u64) -> u64 {
+    state
+        .wrapping_mul(6364136223846793005)
+        .wrapping_add(1442695040888963407)
+}
+
 /// A script of 240 updates by a fixed rule, three inserts to a delete, and the transcript that the plain program gives.
 fn workload(alloc: Global, setting: &Setting, seed: u64) -> Result<(String, String), Fail> {
     let mut state = seed;
     let mut script = String::new(alloc);
     let mut scans = Scans::new(alloc, setting)?;
     for op in 1..241u64 {
-        state = state
-            .wrapping_mul(6364136223846793005)
-            .wrapping_add(1442695040888963407);
+        state = advance(state);
         let id = (state >> 33) % 90;
         let x = ((state >> 40) % 21) as i64 - 10;
         let y = ((state >> 50) % 21) as i64 - 10;
@@ -264,7 +328,7 @@ fn workload(alloc: Global, setting: &Setting, seed: u64) -> Result<(String, Stri
     Ok((script, text))
 }
 
-static SETTINGS: [Setting; 5] = [
+pub(super) static SETTINGS: [Setting; 5] = [
     Setting {
         pivots: &[],
         levels: 0,
@@ -297,19 +361,31 @@ static SETTINGS: [Setting; 5] = [
     },
 ];
 
+/// The script gives this transcript under the settings, with status 0.
+pub(super) fn check_workload(
+    rt: &impl Abort,
+    alloc: Global,
+    settings: &str,
+    seed: u64,
+    (script, text): (String, String),
+) -> Result<(), Fail> {
+    let words = replay_words(alloc)?;
+    let mut files = files_of(alloc, settings.as_bytes(), b"", script.as_bytes(), &[])?;
+    let mut out = MemorySink::new(alloc, 1000, &[], 100_000)?;
+    let status = replay_call(alloc, words.as_slice(), &mut files, &mut out);
+    assert_eq!(rt; status, 0, "{settings}");
+    assert!(rt; out.bytes() == text.as_bytes(), "{settings}seed {seed}");
+    Ok(())
+}
+
 #[test]
 fn cells_and_splits_are_those_of_scans_by_hand(rt: HostRuntime) -> Result<(), Fail> {
     let alloc = rt.alloc();
-    let words = replay_words(alloc)?;
     for setting in &SETTINGS {
         let settings = settings_text(alloc, setting)?;
         for seed in 0..3u64 {
-            let (script, text) = workload(alloc, setting, seed)?;
-            let mut files = files_of(alloc, settings.as_bytes(), b"", script.as_bytes(), &[])?;
-            let mut out = MemorySink::new(alloc, 1000, &[], 100_000)?;
-            let status = replay_call(alloc, words.as_slice(), &mut files, &mut out);
-            assert_eq!(rt; status, 0, "{settings}");
-            assert!(rt; out.bytes() == text.as_bytes(), "{settings}seed {seed}");
+            let made = workload(alloc, setting, seed)?;
+            check_workload(&rt, alloc, settings.as_str(), seed, made)?;
         }
     }
     Ok(())
