@@ -14,6 +14,7 @@ use Rattle.mi_base.specs.Sorting.{Ascends, SameElements}
 use Rattle.mi_rules.proofs.RuleLemmas.{bound_passes, not_less}
 use Rattle.mi_tree.specs.declared.outcomes.Leaf.{Leaf}
 use Rattle.mi_tree.specs.Passing.{IsBound, hull_passes, is_reached, kth_distance, passes}
+use Rattle.mi_tree.proofs.ListLemmas.{all_joined}
 use Rattle.mi_nearest.specs.declared.order.Rank.{Rank}
 use Rattle.mi_nearest.specs.Nearing.{first_rows}
 use Rattle.mi_nearest.specs.Order.{IsRank, IsRanked, leaves_at, rank_cmp}
@@ -146,10 +147,6 @@ few_more k high before more (r ∷ done) far low h =
     let few = h.0 in
     (omega (arith, nearer_more r.bound before more, nearer_none r.bound high more low.0 far, few), few_more k high before more done far low.1 h.1)
 
-all_and : {X : Type 0} (P : X → Type 0) (xs : List X) (y : X) → AllByRecursion P xs → P y → AllByRecursion P (xs ++ y ∷ [])
-all_and P [] y h p = (p, tt)
-all_and P (x ∷ xs) y h p = (h.0, all_and P xs y h.1 p)
-
 -- one leaf more was opened, of no lesser bound, and not one where the walk stops
 pub walked_more : (dq : List ℕ) (k : ℕ) (leaves : List Leaf) (rows_of : Leaf → List Row) (done : List Rank) (rows new : List Row) (r : Rank) (is : IsRank dq leaves r) → 1 ≤ k
     → NoNearer dq rows_of is.leaf → AllByRecursion (λ x. x.bound ≤ r.bound) done → IfSome (kth_distance k rows) (λ w. r.bound ≤ w)
@@ -163,12 +160,8 @@ walked_more dq k leaves rows_of done rows new r is one apart low next before new
     record {
       rows_are = new_is ∙ ap (first_rows k) (sym more);
       few = subst (λ (xs : List Row). AllByRecursion (λ (x : Rank). nearer x.bound xs < k) (done ++ r ∷ [])) (sym more)
-          (all_and (λ (x : Rank). nearer x.bound (all ++ rows_of is.leaf) < k) done r (few_more k r.bound all (rows_of is.leaf) done far low before.few) last);
+          (all_joined (λ (x : Rank). nearer x.bound (all ++ rows_of is.leaf) < k) done (r ∷ []) (few_more k r.bound all (rows_of is.leaf) done far low before.few) (last, tt));
     }
-
-all_both : {X : Type 0} (P : X → Type 0) (xs ys : List X) → AllByRecursion P xs → AllByRecursion P ys → AllByRecursion P (xs ++ ys)
-all_both P [] ys h l = l
-all_both P (x ∷ xs) ys h l = (h.0, all_both P xs ys h.1 l)
 
 no_nearer_than : (worst : Option ℕ) (bound : ℕ) (rows : List Row) → StopsAt worst bound → AllByRecursion (λ row. bound ≤ row.distance) rows → AllByRecursion (λ row. StopsAt worst row.distance) rows
 no_nearer_than worst bound [] stop h = tt
@@ -184,7 +177,7 @@ far_rows dq leaves rows_of worst (r ∷ rest) apart are stops =
     let near = all_at (NoNearer dq rows_of) leaves r.place is.leaf apart is.stands r.bound is.bound_is in
     let one : rows_at leaves rows_of (r ∷ rest) ≡ rows_of is.leaf ++ rows_at leaves rows_of rest = ap (flat_map rows_of) (at_one leaves r rest is.leaf is.stands) in
     subst (AllByRecursion P) (sym one)
-    (all_both P (rows_of is.leaf) (rows_at leaves rows_of rest) (no_nearer_than worst r.bound (rows_of is.leaf) stops.0 near) (far_rows dq leaves rows_of worst rest apart are.1 stops.1))
+    (all_joined P (rows_of is.leaf) (rows_at leaves rows_of rest) (no_nearer_than worst r.bound (rows_of is.leaf) stops.0 near) (far_rows dq leaves rows_of worst rest apart are.1 stops.1))
 
 -- rows that are farther than the last of k change nothing
 pub far_out : (k : ℕ) (rows before far : List Row) → rows ≡ first_rows k before → AllByRecursion (λ row. StopsAt (kth_distance k rows) row.distance) far → rows ≡ first_rows k (before ++ far)

@@ -3,7 +3,7 @@ use Rattle.std.proofs.Common.{◌≡◌, ℕ, suc, zero, ℤ, ◌+◌, ◌<◌, 
 use Rattle.std.specs.Prelude.{IfSome, is_some, slice_get}
 use Rattle.std.specs.List.{AllByRecursion, filter, flat_map, sum_by}
 use Rattle.std.proofs.lemmas.Bool.{false≢true, leb-false, leb-true, ltb-false, ltb-true}
-use Rattle.std.proofs.lemmas.List.{length-map}
+use Rattle.std.proofs.lemmas.List.{length-map, nil_from_length}
 use Rattle.std.proofs.lemmas.List.Elements.{recursion_from_All}
 use Rattle.std.proofs.lemmas.List.Sums.{sum_by-append, sum_by-cons}
 use Rattle.mi_base.specs.declared.records.LogEvent.{LogEvent}
@@ -115,10 +115,6 @@ filter_swapped p q (x ∷ xs) =
       | false ↦ elim [ true ↦ λ e d. rw d F | false ↦ λ e d. F ]
     ] in
     (elim (p x) as P [ true ↦ λ d. inner true (q x) refl d | false ↦ λ d. inner false (q x) refl d ]) refl
-
-no_pivots : {X : Type 0} (xs : List X) → length xs ≡ 0 → xs ≡ []
-no_pivots [] h = refl
-no_pivots (x ∷ xs) h = absurd (omega arith)
 
 -- what stands at a place of a mapped list
 mapped_at : {X Y : Type 0} (f : X → Y) (xs : List X) (i : ℕ) (y : Y) → slice_get (map f xs) i ≡ Some y → (x : X) × ((slice_get xs i ≡ Some x) × (y ≡ f x))
@@ -236,7 +232,7 @@ module _ (c : Configuration) (limits : IsWithinLimits c) (log : List LogEvent) (
       let mine = cell.only e.1.vector b in
       let long : length dq ≡ n = length-map c.pivots (λ (x : List ℤ). (metric_space c).d query x) in
       let cluster : parts.cluster ≡ cluster_of n c.levels p = cluster_is c limits log legal query 0 e kept ∙ ap (cluster_of n c.levels) (sym mine) in
-      let empty : p ≡ [] → c.pivots ≡ [] = λ none. no_pivots c.pivots (own_empty c limits log legal query 0 e kept (sym mine ∙ none)) in
+      let empty : p ≡ [] → c.pivots ≡ [] = λ none. nil_from_length c.pivots (own_empty c limits log legal query 0 e kept (sym mine ∙ none)) in
       let inside : in_hull parts.distance (Some hull) ≡ true = ap (λ (x : ℕ). in_hull x (Some hull)) kept.distance_is ∙ ap (in_hull (g.distance e.1.vector)) (sym has) ∙ covered p b in
       let P : Option ℕ → Type 0 = λ w. is_near dq w c.levels p hull parts ≡ false → StopsAt w d in
       let go : (w : Option ℕ) → P w = elim [

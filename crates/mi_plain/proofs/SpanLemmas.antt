@@ -3,7 +3,7 @@ use Rattle.std.proofs.Common.{◌≡◌, ℕ, suc, zero, ℤ, ◌+◌, ◌<◌, 
 use Rattle.std.specs.List.{AllByRecursion, filter, fold}
 use Rattle.std.proofs.Math.ListN.{length-take}
 use Rattle.std.proofs.lemmas.Bool.{and_from, and_parts, eqb-true, false≢true, false_from_ne_true}
-use Rattle.std.proofs.lemmas.List.{length-map}
+use Rattle.std.proofs.lemmas.List.{length-map, nil_from_length}
 use Rattle.std.proofs.lemmas.List.Elements.{recursion_from_All}
 use Rattle.mi_base.specs.declared.records.LogEvent.{LogEvent}
 use Rattle.mi_base.specs.declared.records.LogEvent.TheVariants.{Update as Made, Split}
@@ -51,10 +51,6 @@ depth_grows perm d (Split p ∷ log) =
 six_levels : (n levels : ℕ) → IsDepth n levels → levels ≤ 6
 six_levels zero levels h = omega (arith, h)
 six_levels (suc n) levels h = omega (arith, h.1)
-
-none_left : (xs : List ℕ) → length xs ≡ 0 → xs ≡ []
-none_left [] h = refl
-none_left (x ∷ xs) h = absurd (omega arith)
 
 same_from : (a b : Bool) → (b ≡ true → a ≡ true) → (b ≡ false → a ≡ false) → a ≡ b
 same_from a true h k = h refl
@@ -136,7 +132,7 @@ module _ (c : Configuration) (limits : IsWithinLimits c) (log : List LogEvent) (
         let yes : begins p perm ≡ true → is_read dq radius c.levels e leaf ≡ true = λ b.
         let mine : p ≡ own = only b in
         let cluster : parts.cluster ≡ cluster_of (length dq) c.levels p = cluster_is ∙ ap (cluster_of n c.levels) (sym mine) ∙ ap (λ (k : ℕ). cluster_of k c.levels p) (sym long) in
-        let empty : p ≡ [] → dq ≡ [] = λ none. none_left dq (long ∙ own_empty (sym mine ∙ none)) in
+        let empty : p ≡ [] → dq ≡ [] = λ none. nil_from_length dq (long ∙ own_empty (sym mine ∙ none)) in
         and_from (passes dq radius leaf) (is_in_span dq radius c.levels p parts) (filter_passes dq dists radius leaf same let_in b (covered p b))
         (filter_spans dq dists radius c.levels p parts same let_in b empty small cluster kept.distance_is) in
         let no : begins p perm ≡ false → is_read dq radius c.levels e leaf ≡ false = λ b.
