@@ -1,5 +1,5 @@
 //! Which keys of an opened leaf are read.
-ghost use Rattle.std.specs.Prelude.{◌≡◌, ◌≤◌, ℕ, IsTrue, None, IfSome, length};
+ghost use Rattle.std.specs.Prelude.{◌≡◌, ◌↔◌, ◌≤◌, ℕ, IsTrue, None, IfSome, length};
 ghost use Rattle.arrayvec.specs.ArrayVec.{array_vec_len};
 ghost use Rattle.mi_base.specs.Prefixes.{all_below};
 ghost use Rattle.mi_key.specs.Keys.{parts_of};
@@ -40,7 +40,7 @@ pub fn near_span(leaf: &Leaf, query: &Dists, worst: Option<u32>, levels: u32) ->
     requires pivots { IsTrue (all_below (array_vec_len query.now) leaf.now.prefix) }
     requires depth { length leaf.now.prefix ≤ levels }
     requires levels { levels ≤ 6 }
-    ensures none { result ≡ None → leaf.now.hull ≡ None }
+    ensures none { (result ≡ None) ↔ (leaf.now.hull ≡ None) }
     ensures some { IfSome result (λ span. IfSome leaf.now.hull (λ hull. (key : ℕ) → is_within span key ≡ is_near query.now.items worst levels leaf.now.prefix hull (parts_of key))) }
 {
     let (low, high) = leaf.hull?;
