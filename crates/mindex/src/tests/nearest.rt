@@ -45,8 +45,8 @@ static NEAREST_CASES: [(&[u8], &str, &str); 11] = [
     ),
     (
         b"metric,l1\ndims,1\npivot,-10\npivot,0\npivot,10\nlevels,2\ncell,1\nupdates,64\npages,40\n",
-        "insert,7,-4\ninsert,5,-1\ninsert,3,1\nnearest,2,-3\nnearest,3,-3\n",
-        "session,0\nstored,1\nstored,2\nstored,3\nnearest,3,1,2,1\n1,7\n2,5\nnearest,3,1,3,2\n1,7\n2,5\n4,3\nhistory,3,1\ninsert,0,1,7,-4\ninsert,0,2,5,-1\nsplit,1\ninsert,0,3,3,1\ncells,4\n0,0\n1.0,2\n1.2,1\n2,0\nentries,3\npages,1,40\n",
+        "insert,7,-4\ninsert,5,-1\ninsert,3,1\ninsert,8,0\nnearest,2,-3\nnearest,3,-3\n",
+        "session,0\nstored,1\nstored,2\nstored,3\nstored,4\nnearest,4,1,2,1\n1,7\n2,5\nnearest,4,1,3,2\n1,7\n2,5\n3,8\nhistory,4,1\ninsert,0,1,7,-4\ninsert,0,2,5,-1\nsplit,1\ninsert,0,3,3,1\ninsert,0,4,8,0\ncells,4\n0,0\n1.0,3\n1.2,1\n2,0\nentries,4\npages,1,40\n",
     ),
     (
         b"metric,max\ndims,2\nlevels,0\ncell,4\nupdates,8\npages,4\n",

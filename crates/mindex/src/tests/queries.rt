@@ -1,8 +1,6 @@
 //! Workloads with queries under pivots against the plain program, which tries each leaf by the rules and scans all live objects.
 
-use super::workloads::{
-    Hull, SETTINGS, Scans, Setting, advance, check_workload, distance, settings_text,
-};
+use super::workloads::{Hull, Scans, Setting, advance, check_workload, distance, settings_text};
 use std::alloc::Global;
 use std::process::Abort;
 use std::test::Fail;
@@ -200,7 +198,7 @@ impl<'a> Scans<'a> {
     }
 }
 
-/// A script of 240 operations by a fixed rule, half of them inserts, and the transcript that the plain program gives.
+/// A script of 240 operations by a fixed rule, nearly half of them inserts, and the transcript that the plain program gives.
 fn workload(alloc: Global, setting: &Setting, seed: u64) -> Result<(String, String), Fail> {
     let mut state = seed;
     let mut script = String::new(alloc);
@@ -210,17 +208,17 @@ fn workload(alloc: Global, setting: &Setting, seed: u64) -> Result<(String, Stri
         let number = (state >> 33) % 90;
         let x = ((state >> 40) % 21) as i64 - 10;
         let y = ((state >> 50) % 21) as i64 - 10;
-        let line = match state >> 61 {
-            0 => {
+        let line = match state >> 60 {
+            0..=2 => {
                 scans.make(alloc, op, number, None)?;
                 format!(in alloc; "delete,{number}\n")?
             }
-            1 => {
+            3 | 4 => {
                 let radius = number % 14;
                 scans.range(alloc, radius as i64, [x, y])?;
                 format!(in alloc; "range,{radius},{x},{y}\n")?
             }
-            2 | 3 => {
+            5..=8 => {
                 // One query in fifteen asks for more than there are.
                 let count = if number < 84 { number % 12 + 1 } else { 1000 };
                 scans.nearest(alloc, count as usize, [x, y])?;
@@ -236,6 +234,40 @@ fn workload(alloc: Global, setting: &Setting, seed: u64) -> Result<(String, Stri
     let text = scans.finish(alloc)?;
     Ok((script, text))
 }
+
+/// Pivots whose distances from a point differ by even and by odd numbers.
+static SETTINGS: [Setting; 5] = [
+    Setting {
+        pivots: &[],
+        levels: 0,
+        cell: 1,
+        updates: 1000,
+    },
+    Setting {
+        pivots: &[[1, 0]],
+        levels: 1,
+        cell: 1,
+        updates: 1000,
+    },
+    Setting {
+        pivots: &[[0, 0], [9, -8], [-9, 9], [3, 2]],
+        levels: 4,
+        cell: 1,
+        updates: 1000,
+    },
+    Setting {
+        pivots: &[[5, 4], [-5, 5], [5, 4], [-5, -5], [0, 1]],
+        levels: 3,
+        cell: 2,
+        updates: 1000,
+    },
+    Setting {
+        pivots: &[[10, 0], [0, 9], [-10, 0], [0, -9], [1, 1], [0, 0]],
+        levels: 2,
+        cell: 2,
+        updates: 60,
+    },
+];
 
 /// The workloads of a few seeds give their transcripts.
 fn check_seeds(rt: &impl Abort, alloc: Global, setting: &Setting) -> Result<(), Fail> {

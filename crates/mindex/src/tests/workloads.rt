@@ -11,9 +11,9 @@ use std::test::Fail;
 /// Settings of the plane, with fewer than ten pivots.
 pub(super) struct Setting {
     pub(super) pivots: &'static [[i64; 2]],
-    levels: usize,
-    cell: usize,
-    updates: u64,
+    pub(super) levels: usize,
+    pub(super) cell: usize,
+    pub(super) updates: u64,
 }
 
 /// A live object.
@@ -328,7 +328,7 @@ fn workload(alloc: Global, setting: &Setting, seed: u64) -> Result<(String, Stri
     Ok((script, text))
 }
 
-pub(super) static SETTINGS: [Setting; 5] = [
+static SETTINGS: [Setting; 5] = [
     Setting {
         pivots: &[],
         levels: 0,
