@@ -4,7 +4,7 @@ ghost use Rattle.mi_key.specs.Ranges.{is_within};
 
 use crate::Key;
 
-/// The keys from one key to another, ends included.
+/// The keys from one key to another, ends included; none where the first is the greater.
 #[derive(Clone, Copy, Debug, PartialEq, Eq)]
 pub struct Interval {
     /// The least key.

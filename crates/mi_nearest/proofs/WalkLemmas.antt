@@ -1,7 +1,7 @@
 -- A walk over ranked leaves that stops at the first whose bound is greater than the last row's distance.
-use Rattle.std.proofs.Common.{◌≡◌, ℕ, suc, zero, ◌+◌, ◌<◌, ◌≤◌, List, [], ◌∷◌, ◌++◌, length, Bool, true, false, cond, nat_le, nat_lt, refl, sym, ap, ◌∙◌, subst, arith, append_assoc, append-nil, length-append, zero-add, Option, Some, None}
-use Rattle.std.specs.Prelude.{IfSome, count_by, is_some, slice_get, slice_index_or}
-use Rattle.std.specs.List.{AllByRecursion, filter, filter_map, flat_map, sum_by}
+use Rattle.std.proofs.Common.{◌≡◌, ℕ, suc, zero, ◌+◌, ◌<◌, ◌≤◌, List, [], ◌∷◌, ◌++◌, length, Bool, true, false, cond, nat_le, nat_lt, refl, sym, ap, ◌∙◌, subst, arith, append-nil, length-append, zero-add, Option, Some, None}
+use Rattle.std.specs.Prelude.{IfSome, is_some, slice_get, slice_index_or}
+use Rattle.std.specs.List.{AllByRecursion, filter, flat_map, sum_by}
 use Rattle.std.specs.Ordering.{is_lt, nat_cmp}
 use Rattle.std.proofs.lemmas.Bool.{false≢true, le-leb, le-ltb}
 use Rattle.std.proofs.lemmas.Bool.Decides.{nat_tests}
@@ -13,7 +13,7 @@ use Rattle.mi_base.specs.declared.records.Row.{Row}
 use Rattle.mi_base.specs.Sorting.{Ascends, SameElements}
 use Rattle.mi_rules.proofs.RuleLemmas.{bound_passes, not_less}
 use Rattle.mi_tree.specs.declared.outcomes.Leaf.{Leaf}
-use Rattle.mi_tree.specs.Passing.{IsBound, hull_passes, is_reached, kth_distance, passes}
+use Rattle.mi_tree.specs.Passing.{IsBound, hull_passes, is_reached, kth_distance}
 use Rattle.mi_tree.proofs.ListLemmas.{all_joined}
 use Rattle.mi_nearest.specs.declared.order.Rank.{Rank}
 use Rattle.mi_nearest.specs.Nearing.{first_rows}

@@ -1,5 +1,5 @@
 -- The live objects of a leaf, as its entries tell them.
-use Rattle.std.proofs.Common.{◌≡◌, ℕ, ℤ, ◌++◌, List, [], ◌∷◌, map, Bool, true, false, cond, refl, sym, ap, ◌∙◌, subst, append_assoc}
+use Rattle.std.proofs.Common.{◌≡◌, ℕ, ℤ, List, [], ◌∷◌, map, Bool, true, false, cond, refl, sym, ap, subst}
 use Rattle.std.specs.List.{filter, AllByRecursion}
 use Rattle.std.specs.Map.{values_of}
 use Rattle.mi_base.specs.declared.records.LogEvent.{LogEvent}

@@ -1,5 +1,5 @@
 -- What a query for the nearest keeps of the leaves' entries is the scan.
-use Rattle.std.proofs.Common.{◌≡◌, ℕ, suc, zero, ℤ, ◌+◌, ◌<◌, ◌≤◌, ◌^◌, List, [], ◌∷◌, ◌++◌, map, length, Bool, true, false, cond, ◌&&◌, IsTrue, nat_le, refl, sym, ap, ◌∙◌, subst, arith, append_assoc, append-nil, length-append, zero-add, Option, Some, None}
+use Rattle.std.proofs.Common.{◌≡◌, ℕ, suc, zero, ℤ, ◌+◌, ◌<◌, ◌≤◌, List, [], ◌∷◌, ◌++◌, map, length, Bool, true, false, cond, IsTrue, nat_le, refl, sym, ap, ◌∙◌, subst, arith, append-nil, length-append, zero-add, Option, Some, None}
 use Rattle.std.specs.Prelude.{IfSome, is_some, slice_get}
 use Rattle.std.specs.List.{AllByRecursion, filter, flat_map, sum_by}
 use Rattle.std.proofs.lemmas.Bool.{false≢true, leb-false, leb-true, ltb-false, ltb-true}
@@ -13,7 +13,7 @@ use Rattle.mi_base.specs.declared.records.Reply.TheVariants as Reply
 use Rattle.mi_base.specs.declared.records.Row.{Row}
 use Rattle.mi_base.specs.Configuration.{Configuration, IsWithinLimits, metric_space, space_of}
 use Rattle.mi_base.specs.History.{Object, end_of, entered, live, nearest_scan, row_of, updates_of}
-use Rattle.mi_base.specs.Permutations.{begins, distances, key_distance}
+use Rattle.mi_base.specs.Permutations.{begins, distances}
 use Rattle.mi_base.specs.Prefixes.{all_below}
 use Rattle.mi_base.specs.Sorting.{Ascends, SameElements}
 use Rattle.mi_base.specs.Space.{IsMetric}
@@ -22,7 +22,7 @@ use Rattle.mi_board.proofs.BoardLemmas.{is_grid}
 use Rattle.mi_key.specs.declared.entries.Entry.{Entry}
 use Rattle.mi_key.specs.declared.ranges.Interval.{Interval}
 use Rattle.mi_key.specs.Clusters.{cluster_of}
-use Rattle.mi_key.specs.Entries.{Offering, object_of}
+use Rattle.mi_key.specs.Entries.{Offering}
 use Rattle.mi_key.specs.Keys.{parts_of}
 use Rattle.mi_key.specs.Ranges.{is_within}
 use Rattle.mi_key.proofs.ClusterLemmas.{cluster-exact}

@@ -81,7 +81,7 @@ module _ (c : Configuration) (limits : IsWithinLimits c) (log : List LogEvent) (
       let ok = is_grid c limits log legal in
       one_leaf g (g.perm e.1.vector) (ok.perms e.1.vector).0 (ok.perms e.1.vector).1 ok log (all_may c log legal)
 
-  pub all_fit : AllByRecursion (Fits (length c.pivots) c.levels) (leaves (grid_for c) log)
+  all_fit : AllByRecursion (Fits (length c.pivots) c.levels) (leaves (grid_for c) log)
   all_fit = recursion_from_All (Fits (length c.pivots) c.levels) (leaves (grid_for c) log) (leaves_fit (grid_for c) (is_grid c limits log legal) log (all_may c log legal))
 
   pub own_fits : Fits (length c.pivots) c.levels own

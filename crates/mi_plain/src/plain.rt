@@ -224,7 +224,7 @@ impl Plain {
     }
 
     /// Answers a query for the nearest at the end of the log: the leaves are opened by their bounds, until the next one's is greater
-    /// than the distance of the last of `count` rows. The count is at most 1,000,000.
+    /// than the distance of the last of `count` rows. The count is from 1 to 1,000,000.
     pub fn nearest<M: Metric, L: Ledger>(
         &self,
         alloc: Global,

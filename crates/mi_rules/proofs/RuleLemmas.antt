@@ -1,6 +1,6 @@
 -- The rules as facts of distances, and that none of them drops an answer.
 use Rattle.std.proofs.Common.{◌≡◌, ℕ, suc, zero, ℤ, ◌+◌, ◌-◌, ◌*◌, ◌<◌, ◌≤◌, ◌^◌, List, [], ◌∷◌, map, length, take, get_or, Bool, true, false, ◌&&◌, ◌||◌, IsTrue, nat_le, nat_eq, refl, sym, ap, ◌∙◌, subst, arith, zero-add, Option, Some, None}
-use Rattle.std.specs.Prelude.{max, slice_index, slice_get}
+use Rattle.std.specs.Prelude.{IfSome, max, slice_index, slice_get}
 use Rattle.std.specs.Int.{abs_diff}
 use Rattle.std.specs.Ordering.{nat_cmp, is_lt, ordering_then}
 use Rattle.std.specs.declared.cmp.Ordering.{Ordering}
@@ -317,6 +317,15 @@ answer_near space query object r a leaf h empty hull some levels key c d =
     let covered : in_hull key.distance (Some hull) ≡ true = ap (λ n. in_hull n (Some hull)) d ∙ ap (in_hull (key_distance (distances space object))) (sym some) ∙ h.covered in
     let small : key.distance < 2 ^ 27 = omega (arith, distance_small space query object r a) in
     and_from _ _ (hull_near dq levels leaf.prefix hull key (c ∙ ap (λ n. cluster_of n levels leaf.prefix) pivots) small covered) (answer_spans space query object r a leaf h empty levels key c d)
+
+-- at whatever distance of the last row that isn't below the radius, and without one
+pub answer_near_all : (space : Space) (query object : List ℤ) (r : ℕ) → IsAnswer space query object r → (worst : Option ℕ) → IfSome worst (λ w. r ≤ w) → (leaf : Leaf) → MayHold leaf (distances space object) → (leaf.prefix ≡ [] → space.pivots ≡ [])
+    → (hull : ℕ × ℕ) → leaf.hull ≡ Some hull → (levels : ℕ) (key : KeyParts) → key.cluster ≡ cluster_of (length space.pivots) levels leaf.prefix → key.distance ≡ key_distance (distances space object)
+    → is_near (distances space query) worst levels leaf.prefix hull key ≡ true
+answer_near_all space query object r a None le leaf h empty hull some levels key c d = (and_parts _ _ (answer_near space query object r a leaf h empty hull some levels key c d)).0
+answer_near_all space query object r a (Some w) le leaf h empty hull some levels key c d =
+    let farther : IsAnswer space query object w = record { metric = a.metric; pivots_fit = a.pivots_fit; query_fits = a.query_fits; object_fits = a.object_fits; near = omega (arith, a.near, le) } in
+    answer_near space query object w farther leaf h empty hull some levels key c d
 
 -- what the filter refuses is farther than the radius
 pub refused_far : (m : MetricSpace) → IsMetric m → (query object : List ℤ) (dq dists : List ℕ) (r : ℕ) → IsTrue (m.fits query) → IsTrue (m.fits object) → Measured m query dq object dists

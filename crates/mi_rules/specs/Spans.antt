@@ -21,7 +21,7 @@ greatest_distance dq r (p ∷ ps) = cut (slice_index dq p + r)
 abbrev pub is_in_span : List ℕ → ℕ → ℕ → List ℕ → KeyParts → Bool
 is_in_span dq r levels prefix parts = stands_between (cluster_of (length dq) levels prefix) (least_distance dq r prefix) (greatest_distance dq r prefix) parts
 
--- the key is of this cell, and its distance lies in the hull
+-- the key is of this cell, and its distance lies in the hull, cut to what a key may have
 abbrev pub is_in_hull : ℕ → ℕ → List ℕ → ℕ × ℕ → KeyParts → Bool
 is_in_hull pivots levels prefix hull parts = stands_between (cluster_of pivots levels prefix) (cut hull.0) (cut hull.1) parts
 

@@ -1,5 +1,5 @@
 //! What is true of the rules under every metric. The functions do nothing.
-ghost use Rattle.std.specs.Prelude.{◌≡◌, ◌≤◌, ◌<◌, ◌^◌, [], ℕ, ℤ, List, Some, length, nat_le, true};
+ghost use Rattle.std.specs.Prelude.{◌≡◌, ◌≤◌, ◌<◌, ◌^◌, [], ℕ, ℤ, List, IfSome, Option, Some, length, nat_le, true};
 ghost use Rattle.std.specs.List.{filter};
 ghost use Rattle.mi_base.specs.declared.records.LogEvent.{LogEvent};
 ghost use Rattle.mi_base.specs.Configuration.{IsDepth};
@@ -27,10 +27,10 @@ pub fn no_answer_is_dropped()
         → (leaf : Leaf) → MayHold leaf (distances space object) → (leaf.prefix ≡ [] → space.pivots ≡ [])
         → (levels : ℕ) (key : KeyParts) → key.cluster ≡ cluster_of (length space.pivots) levels leaf.prefix → key.distance ≡ key_distance (distances space object)
         → is_in_span (distances space query) radius levels leaf.prefix key ≡ true }
-    ensures near { (space : Space) (query object : List ℤ) (radius : ℕ) → IsAnswer space query object radius
+    ensures near { (space : Space) (query object : List ℤ) (radius : ℕ) → IsAnswer space query object radius → (worst : Option ℕ) → IfSome worst (λ w. radius ≤ w)
         → (leaf : Leaf) → MayHold leaf (distances space object) → (leaf.prefix ≡ [] → space.pivots ≡ []) → (hull : ℕ × ℕ) → leaf.hull ≡ Some hull
         → (levels : ℕ) (key : KeyParts) → key.cluster ≡ cluster_of (length space.pivots) levels leaf.prefix → key.distance ≡ key_distance (distances space object)
-        → is_near (distances space query) (Some radius) levels leaf.prefix hull key ≡ true }
+        → is_near (distances space query) worst levels leaf.prefix hull key ≡ true }
 {}
 
 /// What passes at a radius passes at each greater one, so from its bound on.

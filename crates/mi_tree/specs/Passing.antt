@@ -67,7 +67,7 @@ last_distance [] = None
 last_distance (row ∷ []) = Some row.distance
 last_distance (row ∷ next ∷ rows) = last_distance (next ∷ rows)
 
--- the distance of the farthest of so many rows; none where there are fewer
+-- the distance in the last row, once there are so many rows; none while there are fewer
 abbrev pub kth_distance : ℕ → List Row → Option ℕ
 kth_distance count rows = cond (nat_lt (length rows) count) None (last_distance rows)
 

@@ -1,4 +1,4 @@
-use Rattle.mi_rules.proofs.RuleLemmas.{answer_bound, answer_filters, answer_near, answer_passes, answer_spans}
+use Rattle.mi_rules.proofs.RuleLemmas.{answer_bound, answer_filters, answer_near_all, answer_passes, answer_spans}
 use Rattle.mi_rules.proofs.laws.no_answer_is_dropped.Goals as goal
 
 pub returns-clause-filter : goal.returns-clause-filter
@@ -14,4 +14,4 @@ pub returns-clause-bound : goal.returns-clause-bound
 returns-clause-bound c = answer_bound
 
 pub returns-clause-near : goal.returns-clause-near
-returns-clause-near c = answer_near
+returns-clause-near c = answer_near_all

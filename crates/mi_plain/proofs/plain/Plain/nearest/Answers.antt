@@ -1,4 +1,4 @@
-use Rattle.std.proofs.Common.{◌≡◌, ◌∙◌, ◌≤◌, ◌<◌, ◌+◌, ◌++◌, [], ◌∷◌, refl, sym, ap, subst, arith, length, List, ℕ, ℤ, IsTrue, Option, Some, append_assoc, length-append}
+use Rattle.std.proofs.Common.{◌≡◌, ◌∙◌, ◌≤◌, ◌<◌, ◌++◌, [], ◌∷◌, sym, ap, subst, arith, length, List, ℕ, ℤ, IsTrue, Option, Some, append_assoc, length-append}
 use Rattle.std.specs.Prelude.{IfSome, map, slice_get, slice_index_or}
 use Rattle.std.specs.List.{AllByRecursion, sum_by}
 use Rattle.std.proofs.lemmas.Option.{slice_get_within}
@@ -18,7 +18,7 @@ use Rattle.mi_key.specs.Ranges.{is_within}
 use Rattle.mi_nearest.specs.declared.order.Rank.{Rank}
 use Rattle.mi_nearest.specs.Nearing.{Takes}
 use Rattle.mi_nearest.specs.Order.{IsRank, IsRanked, leaves_at, rank_cmp}
-use Rattle.mi_nearest.proofs.WalkLemmas.{StopsAt, Walked, all_later, all_walked, few_done, next_at, stops_later, sum_next, walked_none}
+use Rattle.mi_nearest.proofs.WalkLemmas.{StopsAt, all_later, all_walked, few_done, next_at, stops_later, sum_next}
 use Rattle.mi_rules.specs.Spans.{is_near}
 use Rattle.mi_tree.specs.declared.outcomes.Leaf.{Leaf}
 use Rattle.mi_tree.specs.Catalogs.{Cells}
