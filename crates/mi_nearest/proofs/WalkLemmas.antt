@@ -271,8 +271,13 @@ kept_few {X = X} t (x ∷ xs) =
 pub few_done : (dq : List ℕ) (leaves : List Leaf) (ranks done rest : List Rank) → IsRanked dq leaves ranks → ranks ≡ done ++ rest → sum_by (λ (l : Leaf). 1) (leaves_at leaves done) ≤ length leaves
 few_done dq leaves ranks done rest ranked parts =
     let one : Leaf → ℕ = λ l. 1 in
-    omega (arith, ranked.all.sums one, kept_few (λ (l : Leaf). is_some l.hull) leaves, ap (sum_by one) (ap (leaves_at leaves) parts ∙ at_more leaves done rest),
-    sum_by-append one (leaves_at leaves done) (leaves_at leaves rest))
+    omega (
+      arith,
+      ranked.all.sums one,
+      kept_few (λ (l : Leaf). is_some l.hull) leaves,
+      ap (sum_by one) (ap (leaves_at leaves) parts ∙ at_more leaves done rest),
+      sum_by-append one (leaves_at leaves done) (leaves_at leaves rest),
+    )
 
 next_rank : (done rest : List Rank) (d : Rank) → length done < length (done ++ rest) → (more : List Rank) × (rest ≡ slice_index_or (done ++ rest) (length done) d ∷ more)
 next_rank [] [] d h = absurd (omega arith)
