@@ -1,5 +1,6 @@
 pub mod FewLemmas
 pub mod FirstLemmas
 pub mod HeapLemmas
+pub mod PlaceLemmas
 pub mod RankLemmas
 pub mod WalkLemmas

@@ -1,10 +1,17 @@
 //! What is true of queries for the nearest at every list of entries. The functions do nothing.
-ghost use Rattle.std.specs.Prelude.{◌≡◌, ◌<◌, [], ◌∷◌, ◌++◌, ℕ, ℤ, List, Some};
+ghost use Rattle.std.specs.Prelude.{◌≡◌, ◌<◌, ◌≤◌, [], ◌∷◌, ◌++◌, ℕ, ℤ, List, Some, length, map};
+ghost use Rattle.std.specs.List.Sorted.{IsStrictlySortedBy};
+ghost use Rattle.std.specs.Ordering.{nat_cmp};
+ghost use Rattle.mi_base.specs.declared.records.LogEvent.{LogEvent};
 ghost use Rattle.mi_base.specs.declared.records.Row.{Row};
+ghost use Rattle.mi_base.specs.Configuration.{IsDepth};
 ghost use Rattle.mi_base.specs.Sorting.{SameElements};
-ghost use Rattle.mi_base.specs.Space.{MetricSpace};
+ghost use Rattle.mi_base.specs.Space.{MetricSpace, Space};
+ghost use Rattle.mi_key.specs.Clusters.{cluster_of};
 ghost use Rattle.mi_key.specs.Entries.{Offering};
 ghost use Rattle.mi_nearest.specs.Nearing.{Nearing, Takes, first_rows, worst_of};
+ghost use Rattle.mi_tree.specs.Cells.{AllMaySplit, grid_of};
+ghost use Rattle.mi_tree.specs.Counting.{cat};
 
 /// To be offered one list and then another is to be offered both.
 pub fn taking_goes_on()
@@ -19,4 +26,10 @@ pub fn first_rows_stay()
     ensures farther { (work : Nearing) (before : List Row) (worst : ℕ) (row : Row) → work.rows ≡ first_rows work.count before → worst_of work ≡ Some worst → worst < row.distance
         → work.rows ≡ first_rows work.count (before ++ row ∷ []) }
     ensures order { (count : ℕ) (xs ys : List Row) → SameElements xs ys → first_rows count xs ≡ first_rows count ys }
+{}
+
+/// The numbers of the cells after a log ascend from place to place, so that leaves of one bound are ranked by these.
+pub fn places_ascend()
+    ensures { (space : Space) (levels : ℕ) → length space.pivots ≤ 32 → IsDepth (length space.pivots) levels → (log : List LogEvent) → AllMaySplit (grid_of space levels) log
+        → IsStrictlySortedBy nat_cmp (map (λ leaf. cluster_of (length space.pivots) levels leaf.prefix) (cat (grid_of space levels) log)) }
 {}

@@ -5,7 +5,7 @@ mod laws;
 mod order;
 mod work;
 
-pub use laws::{first_rows_stay, taking_goes_on};
+pub use laws::{first_rows_stay, places_ascend, taking_goes_on};
 pub use order::{Rank, ranked};
 pub use work::NearestWork;
 

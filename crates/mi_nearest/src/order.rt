@@ -11,7 +11,7 @@ use mi_tree::Catalog;
 use std::alloc::Global;
 
 /// A leaf by its place in the catalog, with its bound. Ranks are ordered by bound, then place. Places are in the order of the
-/// prefixes (`leaves_are_in_order` of mi_tree), which is that of the cluster numbers (`compare_prefixes` of mi_key).
+/// cluster numbers (`places_ascend`).
 #[derive(Clone, Copy, Debug, PartialEq, Eq, PartialOrd, Ord)]
 pub struct Rank {
     /// The least radius at which the leaf passes.
