@@ -61,6 +61,13 @@ pub stops_here : (worst : Option ℕ) (bound : ℕ) → stops_at worst bound ≡
 stops_here None bound e = absurd (false≢true e)
 stops_here (Some w) bound e = ltb-true w bound e
 
+-- leaves that were ranked by measured distances are ranked by the settings'
+pub ranked_here : (c : Configuration) (log : List LogEvent) (query : List ℤ) (dq : List ℕ) (ls : List Leaf) (ranks items : List Rank) → dq ≡ distances (space_of c) query → ls ≡ cells_of c log → items ≡ ranks → IsRanked dq ls ranks
+    → IsRanked (distances (space_of c) query) (cells_of c log) items
+ranked_here c log query dq ls ranks items dq_is ls_are items_are ranked =
+    let ds = distances (space_of c) query in
+    subst (IsRanked ds (cells_of c log)) (sym items_are) (subst (λ (xs : List Leaf). IsRanked ds xs ranks) ls_are (subst (λ (xs : List ℕ). IsRanked xs ls ranks) dq_is ranked))
+
 -- the rows of the objects that belong to a leaf
 abbrev pub rows_in : Configuration → List ℤ → List (ℕ × Entry) → Leaf → List Row
 rows_in c query es leaf = map (row_of (metric_space c) query) (filter (belongs (grid_for c) leaf.prefix) (map object_in es))

@@ -211,6 +211,12 @@ taken_all c log query radius es m dq levels i first w k n m_is dq_is levels_are 
     (subst (λ (xs : List ℕ). Takes (metric_space c) query first k (offerings (opened_entries xs radius levels es (take i cells))) w n) dq_is
     (subst (λ (x : MetricSpace). Takes x query first k (offerings (opened_entries dq radius levels es (take i cells))) w n) m_is taken)))
 
+-- distances to the settings' pivots by their metric
+pub measured_by : (c : Configuration) (m : MetricSpace) (pivots : List (List ℤ)) (query : List ℤ) (dq : List ℕ) → dq ≡ distances (record { metric = m; pivots = pivots }) query → m ≡ metric_space c → pivots ≡ c.pivots
+    → dq ≡ distances (space_of c) query
+measured_by c m pivots query dq measured m_is pivots_are =
+    measured ∙ ap (λ (x : MetricSpace). distances (record { metric = x; pivots = pivots }) query) m_is ∙ ap (λ (ps : List (List ℤ)). distances (record { metric = metric_space c; pivots = ps }) query) pivots_are
+
 -- the entries' distances are measured as the query's are
 pub are_measured : (c : Configuration) → IsWithinLimits c → (log : List LogEvent) (query : List ℤ) (dq : List ℕ) → dq ≡ distances (space_of c) query → (es : List (ℕ × Entry))
     → AllByRecursion (λ e. IsKept c log e.0 e.1) es → AreMeasured (metric_space c) query dq es

@@ -3,7 +3,7 @@ use Rattle.std.specs.Prelude.{◌≡◌, ℕ, ℤ, ◌+◌, ◌≤◌, List, [],
 use Rattle.mi_base.specs.declared.records.LogEvent.{LogEvent}
 use Rattle.mi_base.specs.declared.records.Op.{Op}
 use Rattle.mi_base.specs.declared.records.Reply.{Reply}
-use Rattle.mi_base.specs.declared.records.Reply.TheVariants.{Present, Absent, Full, Range, Nearest}
+use Rattle.mi_base.specs.declared.records.Reply.TheVariants.{Stored, Present, Absent, Full, Range, Nearest, Memory}
 use Rattle.mi_base.specs.Configuration.{Configuration, space_of}
 use Rattle.mi_base.specs.History.{entered, updates_of}
 use Rattle.mi_tree.specs.Right.{Right}
@@ -52,6 +52,12 @@ Ran c old session op (o ∷ os) [] new = ⊥
 abbrev pub RanAlone : Configuration → List Op → List (List Reply) → List LogEvent → Type 0
 RanAlone c script (ys ∷ []) log = (last : List LogEvent) × (Ran c [] 0 1 script ys last × GrowsBySplits last log)
 RanAlone c script yss log = ⊥
+
+-- an insert takes one step for each pivot, and none where it is refused for another cause than want of memory
+abbrev pub WorksInsert : Configuration → ℕ → Reply → ℕ → Type 0
+WorksInsert c steps (Stored number) steps' = steps' ≡ steps + length c.pivots
+WorksInsert c steps Memory steps' = steps' ≤ steps + length c.pivots
+WorksInsert c steps y steps' = steps' ≡ steps
 
 -- a range query takes one step for each distance that its reply tells
 abbrev pub Works : ℕ → Reply → ℕ → Type 0

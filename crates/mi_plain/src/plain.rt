@@ -7,7 +7,7 @@ ghost use Rattle.mi_base.specs.Permutations.{distances, key_distance};
 ghost use Rattle.mi_base.specs.Sorting.{SameElements};
 ghost use Rattle.mi_board.specs.Actors.{actor_at, idle, released};
 ghost use Rattle.mi_board.specs.Boards.{HasRoom, MayCommit, MayInsert, crowded_at, grid_in, opened_board, with_actor, with_split};
-ghost use Rattle.mi_plain.specs.Answering.{Answers, GrowsBySplits, Keeps, Works, WorksNearest};
+ghost use Rattle.mi_plain.specs.Answering.{Answers, GrowsBySplits, Keeps, Works, WorksInsert, WorksNearest};
 ghost use Rattle.mi_plain.specs.Plain.{IsKept, NoClaims, work_left};
 ghost use Rattle.mi_tree.specs.Counting.{belongs, beginning, placed};
 ghost use Rattle.mi_tree.specs.Legal.{LegalLog, MayFollow, Settled, cells_of};
@@ -113,6 +113,7 @@ impl Plain {
         ensures idle { NoClaims self.new }
         ensures answers { Answers self.old.settings self.old.log SESSION op (Op.Insert id vector.now) result self.new.log }
         ensures keeps { Keeps self.old.log result self.new.log }
+        ensures work { WorksInsert self.old.settings steps.old result steps.new }
     {
         if self.has(&id) {
             return Reply::Present { at: self.end() };

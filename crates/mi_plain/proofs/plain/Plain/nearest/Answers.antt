@@ -1,4 +1,4 @@
-use Rattle.std.proofs.Common.{◌≡◌, ◌∙◌, ◌≤◌, ◌<◌, ◌++◌, [], ◌∷◌, sym, ap, subst, arith, length, List, ℕ, ℤ, IsTrue, Option, Some, append_assoc, length-append}
+use Rattle.std.proofs.Common.{◌≡◌, ◌∙◌, ◌≤◌, ◌<◌, ◌++◌, [], ◌∷◌, sym, ap, subst, arith, length, List, ℕ, IsTrue, Option, Some, append_assoc, length-append}
 use Rattle.std.specs.Prelude.{IfSome, map, slice_get, slice_index_or}
 use Rattle.std.specs.List.{AllByRecursion, sum_by}
 use Rattle.std.proofs.lemmas.Option.{slice_get_within}
@@ -17,7 +17,7 @@ use Rattle.mi_key.specs.Keys.{parts_of}
 use Rattle.mi_key.specs.Ranges.{is_within}
 use Rattle.mi_nearest.specs.declared.order.Rank.{Rank}
 use Rattle.mi_nearest.specs.Nearing.{Takes}
-use Rattle.mi_nearest.specs.Order.{IsRank, IsRanked, leaves_at, rank_cmp}
+use Rattle.mi_nearest.specs.Order.{IsRank, leaves_at, rank_cmp}
 use Rattle.mi_nearest.proofs.WalkLemmas.{StopsAt, all_later, all_walked, few_done, next_at, stops_later, sum_next}
 use Rattle.mi_rules.specs.Spans.{is_near}
 use Rattle.mi_tree.specs.declared.outcomes.Leaf.{Leaf}
@@ -27,9 +27,9 @@ use Rattle.mi_tree.specs.Passing.{kth_distance, reached_objects}
 use Rattle.mi_plain.specs.Answering.{Answers, WorksNearest}
 use Rattle.mi_plain.specs.Opening.{AreMeasured, offerings, spanned}
 use Rattle.mi_plain.specs.Plain.{IsKept, object_in}
-use Rattle.mi_plain.proofs.NearestLemmas.{cells_below, goes_on, nearest_answered, stops_here, walk_step}
+use Rattle.mi_plain.proofs.NearestLemmas.{cells_below, goes_on, nearest_answered, ranked_here, stops_here, walk_step}
 use Rattle.mi_plain.proofs.OpenedLemmas.{few_cells, leaf_fits}
-use Rattle.mi_plain.proofs.OpeningLemmas.{are_measured}
+use Rattle.mi_plain.proofs.OpeningLemmas.{are_measured, measured_by}
 use Rattle.mi_plain.proofs.plain.Plain.nearest.Given.{Over}
 use Rattle.mi_plain.proofs.plain.Plain.nearest.Goals as goal
 use Rattle.mi_plain.proofs.plain.Plain.nearest.Goals.{else-loop-rank-test, then-loop-rank-test+then-stops_at}
@@ -49,14 +49,9 @@ overflow_add-opened g c =
     let cells = cells_of k s.log in
     let leaves = ap (λ (x : Cells). x.leaves) c.catalog-catalog.ensures ∙ ap (λ (x : BoardState). cells_of x.settings x.log) c.self.view_is in
     let pivots : c.self.inside.pivots ≡ k.pivots = c.self.invariant.pivots_are ∙ ap (λ (x : BoardState). x.settings.pivots) c.self.view_is in
-    let dq : c.measure-dists.result.items ≡ distances (space_of k) query =
-    c.measure-dists.ensures.distances ∙ ap (λ (m : MetricSpace). distances (record { metric = m; pivots = c.self.inside.pivots }) query) c.requires.space
-    ∙ ap (λ (xs : List (List ℤ)). distances (record { metric = metric_space k; pivots = xs }) query) pivots in
+    let dq = measured_by k _ c.self.inside.pivots query c.measure-dists.result.items c.measure-dists.ensures.distances c.requires.space pivots in
     let items = c.deref-rank-items.result.now in
-    let ranked : IsRanked (distances (space_of k) query) cells items =
-    subst (IsRanked (distances (space_of k) query) cells) (sym c.deref-rank-items.ensures.value)
-    (subst (λ (ls : List Leaf). IsRanked (distances (space_of k) query) ls c.in-Ok.ranks.items) leaves
-    (subst (λ (ds : List ℕ). IsRanked ds c.catalog-catalog.result.now.leaves c.in-Ok.ranks.items) dq c.in-Ok.ensures)) in
+    let ranked = ranked_here k s.log query c.measure-dists.result.items c.catalog-catalog.result.now.leaves c.in-Ok.ranks.items items dq leaves c.deref-rank-items.ensures.value c.in-Ok.ensures in
     let done = c.loop-rank.invariant.done in
     let rest = c.loop-rank.invariant.rest in
     let parts = c.loop-rank.invariant.parts in
@@ -72,14 +67,9 @@ leaf-leaf-requires g c =
     let cells = cells_of k s.log in
     let leaves = ap (λ (x : Cells). x.leaves) c.catalog-catalog.ensures ∙ ap (λ (x : BoardState). cells_of x.settings x.log) c.self.view_is in
     let pivots : c.self.inside.pivots ≡ k.pivots = c.self.invariant.pivots_are ∙ ap (λ (x : BoardState). x.settings.pivots) c.self.view_is in
-    let dq : c.measure-dists.result.items ≡ distances (space_of k) query =
-    c.measure-dists.ensures.distances ∙ ap (λ (m : MetricSpace). distances (record { metric = m; pivots = c.self.inside.pivots }) query) c.requires.space
-    ∙ ap (λ (xs : List (List ℤ)). distances (record { metric = metric_space k; pivots = xs }) query) pivots in
+    let dq = measured_by k _ c.self.inside.pivots query c.measure-dists.result.items c.measure-dists.ensures.distances c.requires.space pivots in
     let items = c.deref-rank-items.result.now in
-    let ranked : IsRanked (distances (space_of k) query) cells items =
-    subst (IsRanked (distances (space_of k) query) cells) (sym c.deref-rank-items.ensures.value)
-    (subst (λ (ls : List Leaf). IsRanked (distances (space_of k) query) ls c.in-Ok.ranks.items) leaves
-    (subst (λ (ds : List ℕ). IsRanked ds c.catalog-catalog.result.now.leaves c.in-Ok.ranks.items) dq c.in-Ok.ensures)) in
+    let ranked = ranked_here k s.log query c.measure-dists.result.items c.catalog-catalog.result.now.leaves c.in-Ok.ranks.items items dq leaves c.deref-rank-items.ensures.value c.in-Ok.ensures in
     let done = c.loop-rank.invariant.done in
     let rest = c.loop-rank.invariant.rest in
     let parts = c.loop-rank.invariant.parts in
@@ -118,8 +108,7 @@ offer_nearest-requires-clause-measured g c =
     let kept = subst (λ (x : BoardState). AllByRecursion (λ (e : ℕ × Entry). IsKept x.settings x.log e.0 e.1) es) c.self.view_is c.self.invariant.kept in
     let pivots : c.self.inside.pivots ≡ k.pivots = c.self.invariant.pivots_are ∙ ap (λ (x : BoardState). x.settings.pivots) c.self.view_is in
     let dq : c.loop-rank.work.dists ≡ distances (space_of k) query =
-    c.loop-rank.invariant.same_dists ∙ c.new-work.ensures.dists ∙ c.measure-dists.ensures.distances ∙ ap (λ (m : MetricSpace). distances (record { metric = m; pivots = c.self.inside.pivots }) query) c.requires.space
-    ∙ ap (λ (xs : List (List ℤ)). distances (record { metric = metric_space k; pivots = xs }) query) pivots in
+    c.loop-rank.invariant.same_dists ∙ c.new-work.ensures.dists ∙ measured_by k _ c.self.inside.pivots query c.measure-dists.result.items c.measure-dists.ensures.distances c.requires.space pivots in
     subst (λ (m : MetricSpace). AreMeasured m query c.loop-rank.work.dists es) (sym c.requires.space) (are_measured k c.end-at.ensures.limits s.log query c.loop-rank.work.dists dq es kept)
 
 pub loop-rank-preserved : goal.loop-rank-preserved
@@ -130,14 +119,9 @@ loop-rank-preserved g c =
     let cells = cells_of k s.log in
     let leaves = ap (λ (x : Cells). x.leaves) c.catalog-catalog.ensures ∙ ap (λ (x : BoardState). cells_of x.settings x.log) c.self.view_is in
     let pivots : c.self.inside.pivots ≡ k.pivots = c.self.invariant.pivots_are ∙ ap (λ (x : BoardState). x.settings.pivots) c.self.view_is in
-    let dq : c.measure-dists.result.items ≡ distances (space_of k) query =
-    c.measure-dists.ensures.distances ∙ ap (λ (m : MetricSpace). distances (record { metric = m; pivots = c.self.inside.pivots }) query) c.requires.space
-    ∙ ap (λ (xs : List (List ℤ)). distances (record { metric = metric_space k; pivots = xs }) query) pivots in
+    let dq = measured_by k _ c.self.inside.pivots query c.measure-dists.result.items c.measure-dists.ensures.distances c.requires.space pivots in
     let items = c.deref-rank-items.result.now in
-    let ranked : IsRanked (distances (space_of k) query) cells items =
-    subst (IsRanked (distances (space_of k) query) cells) (sym c.deref-rank-items.ensures.value)
-    (subst (λ (ls : List Leaf). IsRanked (distances (space_of k) query) ls c.in-Ok.ranks.items) leaves
-    (subst (λ (ds : List ℕ). IsRanked ds c.catalog-catalog.result.now.leaves c.in-Ok.ranks.items) dq c.in-Ok.ensures)) in
+    let ranked = ranked_here k s.log query c.measure-dists.result.items c.catalog-catalog.result.now.leaves c.in-Ok.ranks.items items dq leaves c.deref-rank-items.ensures.value c.in-Ok.ensures in
     let done = c.loop-rank.invariant.done in
     let rest = c.loop-rank.invariant.rest in
     let parts = c.loop-rank.invariant.parts in
@@ -188,14 +172,9 @@ stopped g c =
     let cells = cells_of k s.log in
     let leaves = ap (λ (x : Cells). x.leaves) c.catalog-catalog.ensures ∙ ap (λ (x : BoardState). cells_of x.settings x.log) c.self.view_is in
     let pivots : c.self.inside.pivots ≡ k.pivots = c.self.invariant.pivots_are ∙ ap (λ (x : BoardState). x.settings.pivots) c.self.view_is in
-    let dq : c.measure-dists.result.items ≡ distances (space_of k) query =
-    c.measure-dists.ensures.distances ∙ ap (λ (m : MetricSpace). distances (record { metric = m; pivots = c.self.inside.pivots }) query) c.requires.space
-    ∙ ap (λ (xs : List (List ℤ)). distances (record { metric = metric_space k; pivots = xs }) query) pivots in
+    let dq = measured_by k _ c.self.inside.pivots query c.measure-dists.result.items c.measure-dists.ensures.distances c.requires.space pivots in
     let items = c.deref-rank-items.result.now in
-    let ranked : IsRanked (distances (space_of k) query) cells items =
-    subst (IsRanked (distances (space_of k) query) cells) (sym c.deref-rank-items.ensures.value)
-    (subst (λ (ls : List Leaf). IsRanked (distances (space_of k) query) ls c.in-Ok.ranks.items) leaves
-    (subst (λ (ds : List ℕ). IsRanked ds c.catalog-catalog.result.now.leaves c.in-Ok.ranks.items) dq c.in-Ok.ensures)) in
+    let ranked = ranked_here k s.log query c.measure-dists.result.items c.catalog-catalog.result.now.leaves c.in-Ok.ranks.items items dq leaves c.deref-rank-items.ensures.value c.in-Ok.ensures in
     let done = c.loop-rank.invariant.done in
     let rest = c.loop-rank.invariant.rest in
     let parts = c.loop-rank.invariant.parts in
@@ -225,14 +204,9 @@ both g c =
     let cells = cells_of k s.log in
     let leaves = ap (λ (x : Cells). x.leaves) c.catalog-catalog.ensures ∙ ap (λ (x : BoardState). cells_of x.settings x.log) c.self.view_is in
     let pivots : c.self.inside.pivots ≡ k.pivots = c.self.invariant.pivots_are ∙ ap (λ (x : BoardState). x.settings.pivots) c.self.view_is in
-    let dq : c.measure-dists.result.items ≡ distances (space_of k) query =
-    c.measure-dists.ensures.distances ∙ ap (λ (m : MetricSpace). distances (record { metric = m; pivots = c.self.inside.pivots }) query) c.requires.space
-    ∙ ap (λ (xs : List (List ℤ)). distances (record { metric = metric_space k; pivots = xs }) query) pivots in
+    let dq = measured_by k _ c.self.inside.pivots query c.measure-dists.result.items c.measure-dists.ensures.distances c.requires.space pivots in
     let items = c.deref-rank-items.result.now in
-    let ranked : IsRanked (distances (space_of k) query) cells items =
-    subst (IsRanked (distances (space_of k) query) cells) (sym c.deref-rank-items.ensures.value)
-    (subst (λ (ls : List Leaf). IsRanked (distances (space_of k) query) ls c.in-Ok.ranks.items) leaves
-    (subst (λ (ds : List ℕ). IsRanked ds c.catalog-catalog.result.now.leaves c.in-Ok.ranks.items) dq c.in-Ok.ensures)) in
+    let ranked = ranked_here k s.log query c.measure-dists.result.items c.catalog-catalog.result.now.leaves c.in-Ok.ranks.items items dq leaves c.deref-rank-items.ensures.value c.in-Ok.ensures in
     let done = c.loop-rank.invariant.done in
     let rest = c.loop-rank.invariant.rest in
     let parts = c.loop-rank.invariant.parts in

@@ -1,4 +1,4 @@
-use Rattle.std.proofs.Common.{◌≡◌, ◌∙◌, ◌≤◌, sym, ap, subst, arith, length, List, ℕ, ℤ, IsTrue, Some}
+use Rattle.std.proofs.Common.{◌≡◌, ◌∙◌, ◌≤◌, sym, ap, subst, arith, length, List, ℕ, IsTrue, Some}
 use Rattle.std.specs.Prelude.{count_by, map, slice_get}
 use Rattle.std.specs.List.{AllByRecursion}
 use Rattle.std.proofs.lemmas.List.{take_all}
@@ -20,7 +20,7 @@ use Rattle.mi_plain.specs.Answering.{Answers, Works}
 use Rattle.mi_plain.specs.Opening.{AreMeasured}
 use Rattle.mi_plain.specs.Plain.{IsKept, object_in}
 use Rattle.mi_plain.proofs.OpenedLemmas.{counted_more, few_cells, leaf_fits}
-use Rattle.mi_plain.proofs.OpeningLemmas.{are_measured, opened_passed, opened_taken, taken_all, taken_distances, taken_rows, taken_steps}
+use Rattle.mi_plain.proofs.OpeningLemmas.{are_measured, measured_by, opened_passed, opened_taken, taken_all, taken_distances, taken_rows, taken_steps}
 use Rattle.mi_plain.proofs.RangeLemmas.{range_answered}
 use Rattle.mi_plain.proofs.plain.Plain.range.Given.{Over}
 use Rattle.mi_plain.proofs.plain.Plain.range.Goals as goal
@@ -71,8 +71,7 @@ offer_span-requires-clause-measured g c =
     let kept = subst (λ (x : BoardState). AllByRecursion (λ (e : ℕ × Entry). IsKept x.settings x.log e.0 e.1) es) c.self.view_is c.self.invariant.kept in
     let pivots : c.self.inside.pivots ≡ k.pivots = c.self.invariant.pivots_are ∙ ap (λ (x : BoardState). x.settings.pivots) c.self.view_is in
     let dq : c.loop-place.work.dists ≡ distances (space_of k) query =
-    c.loop-place.invariant.takes.same_dists ∙ c.new-work.ensures.dists ∙ c.measure-dists.ensures.distances ∙ ap (λ (m : MetricSpace). distances (record { metric = m; pivots = c.self.inside.pivots }) query) c.requires.space
-    ∙ ap (λ (xs : List (List ℤ)). distances (record { metric = metric_space k; pivots = xs }) query) pivots in
+    c.loop-place.invariant.takes.same_dists ∙ c.new-work.ensures.dists ∙ measured_by k _ c.self.inside.pivots query c.measure-dists.result.items c.measure-dists.ensures.distances c.requires.space pivots in
     subst (λ (m : MetricSpace). AreMeasured m query c.loop-place.work.dists es) (sym c.requires.space) (are_measured k c.end-at.ensures.limits s.log query c.loop-place.work.dists dq es kept)
 
 pub loop-place-preserved : goal.loop-place-preserved
@@ -128,8 +127,7 @@ both g c =
     let pivots : c.self.inside.pivots ≡ k.pivots = c.self.invariant.pivots_are ∙ ap (λ (x : BoardState). x.settings.pivots) c.self.view_is in
     let levels : c.self.inside.levels ≡ k.levels = c.self.invariant.levels_are ∙ ap (λ (x : BoardState). x.settings.levels) c.self.view_is in
     let dq : c.measure-dists.result.items ≡ distances (space_of k) query =
-    c.measure-dists.ensures.distances ∙ ap (λ (m : MetricSpace). distances (record { metric = m; pivots = c.self.inside.pivots }) query) c.requires.space
-    ∙ ap (λ (xs : List (List ℤ)). distances (record { metric = metric_space k; pivots = xs }) query) pivots in
+    measured_by k _ c.self.inside.pivots query c.measure-dists.result.items c.measure-dists.ensures.distances c.requires.space pivots in
     let leaves = ap (λ (x : Cells). x.leaves) c.catalog-catalog.ensures ∙ ap (λ (x : BoardState). cells_of x.settings x.log) c.self.view_is in
     let whole : length cells ≤ c.loop-place.place = omega (arith, c.loop-place-test.false, c.len-place-end.ensures, ap length leaves) in
     let taken = taken_all k s.log query radius es M c.measure-dists.result.items c.self.inside.levels c.loop-place.place c.new-work.result c.loop-place.work c.measure-dists.new.steps c.loop-place.steps c.requires.space dq levels whole c.loop-place.invariant.takes in
