@@ -113,17 +113,13 @@ pub reserved_after : (p : List ℕ) (actors : List ActorState) → (actor_at (ch
 reserved_after p [] = refl
 reserved_after p (a ∷ actors) = refl
 
-module _ (b : BoardState) (pivots : List (List ℤ)) (levels cell : ℕ) (entries : List (ℕ × Entry)) (is : IsPlain b pivots levels cell entries) where
+module _ (b : BoardState) (pivots : List (List ℤ)) (entries : List (ℕ × Entry)) (is : IsPlain b pivots entries) where
   -- nothing to do
   pub settled : NoClaims b → first_wanted b ≡ None → Settled b.settings b.log
   settled idle none = none_wanted b (unclaimed b.actors is.two idle.0 idle.1) (cells_of b.settings b.log) none
 
-  -- the test of the leaf of a permutation
-  pub crowded_is : (leaf : Leaf) → is_crowded b.settings.levels b.settings.cell leaf ≡ is_crowded levels cell leaf
-  crowded_is leaf = ap (λ (n : ℕ). is_crowded n b.settings.cell leaf) (sym is.levels_are) ∙ ap (λ (n : ℕ). is_crowded levels n leaf) (sym is.cell_is)
-
   -- a crowded leaf may be split
-  pub crowded_may : (perm : List ℕ) (leaf : Leaf) → beginning perm (cells_of b.settings b.log) ≡ leaf ∷ [] → is_crowded levels cell leaf ≡ true → MayFollow b.settings b.log (Split leaf.prefix)
+  pub crowded_may : (perm : List ℕ) (leaf : Leaf) → beginning perm (cells_of b.settings b.log) ≡ leaf ∷ [] → is_crowded b.settings.levels b.settings.cell leaf ≡ true → MayFollow b.settings b.log (Split leaf.prefix)
   crowded_may perm leaf one full =
       beginning_wanted b.settings.levels b.settings.cell perm (cells_of b.settings b.log) leaf one
-      (crowded_wanted b.settings.levels b.settings.cell leaf is.limits.cell.0 (crowded_is leaf ∙ full))
+      (crowded_wanted b.settings.levels b.settings.cell leaf is.limits.cell.0 full)

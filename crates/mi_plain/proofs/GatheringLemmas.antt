@@ -50,9 +50,9 @@ gathered_objects c log p (e ∷ es) h =
     subst Q (sym test_is) ((elim (belongs g p o) as P [ true ↦ (rw (placed_is, rest) refl) | false ↦ rest ]))
 
 -- the gathered entries of all are the live objects of the leaf
-pub gathered_live : (b : BoardState) (pivots : List (List ℤ)) (levels cell : ℕ) (entries : List (ℕ × Entry)) (p : List ℕ) → IsPlain b pivots levels cell entries
+pub gathered_live : (b : BoardState) (pivots : List (List ℤ)) (entries : List (ℕ × Entry)) (p : List ℕ) → IsPlain b pivots entries
     → SameElements (gathered p (values_of entries)) (map (placed (grid_in b)) (filter (belongs (grid_in b) p) (live (updates_of b.log))))
-gathered_live b pivots levels cell entries p is =
+gathered_live b pivots entries p is =
     let g = grid_in b in
     subst (λ (xs : List Placed). SameElements xs (map (placed g) (filter (belongs g p) (live (updates_of b.log))))) (sym (gathered_objects b.settings b.log p entries is.kept))
     (same_map (placed g) _ _ (same_filter (belongs g p) _ _ is.same))

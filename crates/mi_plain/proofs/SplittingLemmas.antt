@@ -184,35 +184,30 @@ objects_stay p levels (e ∷ es) =
     let first : object_in (e.0, rekeyed p levels e.1) ≡ object_in e = ap (λ (w : List ℤ). record { id = e.0; vector = w }) v in
     cc
 
-module _ (b : BoardState) (pivots : List (List ℤ)) (levels cell : ℕ) (entries : List (ℕ × Entry)) (is : IsPlain b pivots levels cell entries) where
+module _ (b : BoardState) (pivots : List (List ℤ)) (entries : List (ℕ × Entry)) (is : IsPlain b pivots entries) where
   -- a claim, a release or a sweep
-  pub plain_beside : (actors : List ActorState) (retired : List (List ℕ)) → length actors ≡ 2 → IsPlain (state b.settings b.log actors retired) pivots levels cell entries
+  pub plain_beside : (actors : List ActorState) (retired : List (List ℕ)) → length actors ≡ 2 → IsPlain (state b.settings b.log actors retired) pivots entries
   plain_beside actors retired two = record {
     limits = is.limits;
     pivots_are = is.pivots_are;
-    levels_are = is.levels_are;
-    cell_is = is.cell_is;
     two = two;
     same = is.same;
     kept = is.kept;
   }
 
-  pub plain_actor : (f : ActorState → ActorState) (actor : ℕ) → IsPlain (with_actor f actor b) pivots levels cell entries
+  pub plain_actor : (f : ActorState → ActorState) (actor : ℕ) → IsPlain (with_actor f actor b) pivots entries
   plain_actor f actor = plain_beside (change f actor b.actors) b.retired (length-change f actor b.actors ∙ is.two)
 
   -- a leaf that was split
-  pub plain_split : (actor : ℕ) (p : List ℕ) → LegalLog b.settings b.log → MayFollow b.settings b.log (Split p) → IsPlain (with_split p actor b) pivots levels cell (map (λ e. (e.0, rekeyed p levels e.1)) entries)
+  pub plain_split : (actor : ℕ) (p : List ℕ) → LegalLog b.settings b.log → MayFollow b.settings b.log (Split p) → IsPlain (with_split p actor b) pivots (map (λ e. (e.0, rekeyed p b.settings.levels e.1)) entries)
   plain_split actor p legal may =
-      let kept = all_rekeyed b.settings is.limits b.log legal p may entries is.kept in
       record {
         limits = is.limits;
         pivots_are = is.pivots_are;
-        levels_are = is.levels_are;
-        cell_is = is.cell_is;
         two = length-change released actor b.actors ∙ is.two;
-        same = subst (λ (xs : List Object). SameElements xs (live (updates_of (b.log ++ Split p ∷ [])))) (sym (objects_stay p levels entries))
+        same = subst (λ (xs : List Object). SameElements xs (live (updates_of (b.log ++ Split p ∷ [])))) (sym (objects_stay p b.settings.levels entries))
             (subst (λ (xs : List Object). SameElements (map object_in entries) xs) (sym (ap live (updates_of_split b.log p))) is.same);
-        kept = subst (λ (n : ℕ). AllByRecursion (λ (e : ℕ × Entry). IsKept b.settings (b.log ++ Split p ∷ []) e.0 e.1) (map (λ (e : ℕ × Entry). (e.0, rekeyed p n e.1)) entries)) (sym is.levels_are) kept;
+        kept = all_rekeyed b.settings is.limits b.log legal p may entries is.kept;
       }
 
 -- one split more

@@ -57,23 +57,21 @@ kept_updated c log session op u id e h = record {
   lives = h.lives;
 }
 
-module _ (b : BoardState) (pivots : List (List ℤ)) (levels cell : ℕ) (entries : List (ℕ × Entry)) (p : IsPlain b pivots levels cell entries) where
+module _ (b : BoardState) (pivots : List (List ℤ)) (entries : List (ℕ × Entry)) (p : IsPlain b pivots entries) where
   -- an actor's claim or reservation changes
-  pub plain_changed : (b' : BoardState) (f : ActorState → ActorState) (actor : ℕ) → b' ≡ with_actor f actor b → IsPlain b' pivots levels cell entries
-  plain_changed b' f actor is = subst (λ (x : BoardState). IsPlain x pivots levels cell entries) (sym is) (plain_actor b pivots levels cell entries p f actor)
+  pub plain_changed : (b' : BoardState) (f : ActorState → ActorState) (actor : ℕ) → b' ≡ with_actor f actor b → IsPlain b' pivots entries
+  plain_changed b' f actor is = subst (λ (x : BoardState). IsPlain x pivots entries) (sym is) (plain_actor b pivots entries p f actor)
 
   -- an update is made, of these objects
   plain_updated : (b' : BoardState) (entries' : List (ℕ × Entry)) (session op : ℕ) (u : Update) (actors : List ActorState) → length actors ≡ 2
       → b' ≡ state b.settings (b.log ++ Made session op u ∷ []) actors b.retired
       → SameElements (map object_in entries') (live_after (live (updates_of b.log)) u)
-      → AllByRecursion (λ e. IsKept b.settings b.log e.0 e.1) entries' → IsPlain b' pivots levels cell entries'
+      → AllByRecursion (λ e. IsKept b.settings b.log e.0 e.1) entries' → IsPlain b' pivots entries'
   plain_updated b' entries' session op u actors two is same kept =
       let log' = b.log ++ Made session op u ∷ [] in
-      subst (λ (x : BoardState). IsPlain x pivots levels cell entries') (sym is) (record {
+      subst (λ (x : BoardState). IsPlain x pivots entries') (sym is) (record {
         limits = p.limits;
         pivots_are = p.pivots_are;
-        levels_are = p.levels_are;
-        cell_is = p.cell_is;
         two = two;
         same = subst (λ (os : List Object). SameElements (map object_in entries') os) (sym (live_updated b.log session op u)) same;
         kept = all_weaker (λ (e : ℕ × Entry). IsKept b.settings b.log e.0 e.1) (λ (e : ℕ × Entry). IsKept b.settings log' e.0 e.1) (λ e h. kept_updated b.settings b.log session op u e.0 e.1 h) entries' kept;
@@ -85,11 +83,11 @@ module _ (b : BoardState) (pivots : List (List ℤ)) (levels cell : ℕ) (entrie
 
   -- an insert beside its entry, after which the claim ends
   pub plain_inserted : (b' : BoardState) (entries' : List (ℕ × Entry)) (session op id : ℕ) (e : Entry) → is_live id (updates_of b.log) ≡ false → IsKept b.settings b.log id e
-      → b' ≡ with_actor released session (with_event (Made session op (Insert id e.vector)) (reserving false) session b) → entries' ≡ insert_entry nat_cmp entries id e → IsPlain b' pivots levels cell entries'
+      → b' ≡ with_actor released session (with_event (Made session op (Insert id e.vector)) (reserving false) session b) → entries' ≡ insert_entry nat_cmp entries id e → IsPlain b' pivots entries'
   plain_inserted b' entries' session op id e absent kept is entries_are =
       let none = no_entry id absent in
       let K : ℕ × Entry → Type 0 = λ x. IsKept b.settings b.log x.0 x.1 in
-      subst (λ (es : List (ℕ × Entry)). IsPlain b' pivots levels cell es) (sym entries_are)
+      subst (λ (es : List (ℕ × Entry)). IsPlain b' pivots es) (sym entries_are)
       (plain_updated b' (insert_entry nat_cmp entries id e) session op (Insert id e.vector) (change released session (change (reserving false) session b.actors))
       (length-change released session (change (reserving false) session b.actors) ∙ length-change (reserving false) session b.actors ∙ p.two)
       is (same_inserted id e entries (live (updates_of b.log)) none p.same) (all_inserted K id e entries none kept p.kept))
@@ -98,11 +96,11 @@ module _ (b : BoardState) (pivots : List (List ℤ)) (levels cell : ℕ) (entrie
   pub plain_removed : (b' : BoardState) (entries' : List (ℕ × Entry)) (session op id : ℕ) (prefix : List ℕ)
       → lookup (is_at (nat_cmp id)) (remove_entry (is_at (nat_cmp id)) entries) ≡ None
       → b' ≡ with_actor released session (with_event (Made session op (Delete id)) (reserving false) session (with_actor (claiming prefix) session b)) → entries' ≡ remove_entry (is_at (nat_cmp id)) entries
-      → IsPlain b' pivots levels cell entries'
+      → IsPlain b' pivots entries'
   plain_removed b' entries' session op id prefix gone is entries_are =
       let K : ℕ × Entry → Type 0 = λ x. IsKept b.settings b.log x.0 x.1 in
       let claimed = change (claiming prefix) session b.actors in
-      subst (λ (es : List (ℕ × Entry)). IsPlain b' pivots levels cell es) (sym entries_are)
+      subst (λ (es : List (ℕ × Entry)). IsPlain b' pivots es) (sym entries_are)
       (plain_updated b' (remove_entry (is_at (nat_cmp id)) entries) session op (Delete id) (change released session (change (reserving false) session claimed))
       (length-change released session (change (reserving false) session claimed) ∙ length-change (reserving false) session claimed ∙ length-change (claiming prefix) session b.actors ∙ p.two)
       is (same_removed id entries (live (updates_of b.log)) gone p.same) (all_removed K (is_at (nat_cmp id)) entries p.kept))

@@ -41,11 +41,9 @@ pub record IsKept (c : Configuration) (log : List LogEvent) (id : ℕ) (e : Entr
   pub lives : e.death ≡ None
 
 -- the map has the live objects, each under the key of its leaf, beside a board of a session and a splitter
-pub record IsPlain (b : BoardState) (pivots : List (List ℤ)) (levels cell : ℕ) (entries : List (ℕ × Entry)) : Type 0 where
+pub record IsPlain (b : BoardState) (pivots : List (List ℤ)) (entries : List (ℕ × Entry)) : Type 0 where
   pub limits : IsWithinLimits b.settings
   pub pivots_are : pivots ≡ b.settings.pivots
-  pub levels_are : levels ≡ b.settings.levels
-  pub cell_is : cell ≡ b.settings.cell
   pub two : length b.actors ≡ 2
   pub same : SameElements (map object_in entries) (live (updates_of b.log))
   pub kept : AllByRecursion (λ e. IsKept b.settings b.log e.0 e.1) entries

@@ -40,8 +40,6 @@ pub const SPLITTER: u32 = 1;
 #[derive(Drop)]
 pub struct Plain {
     pivots: Pivots,
-    levels: u32,
-    cell: u32,
     board: Board,
     entries: BTreeMap<Id, Entry>,
 }
@@ -54,7 +52,7 @@ impl Model for Plain {
 
     ghost view = { λ p. p.board };
 
-    ghost invariant = { λ p. IsPlain p.board p.pivots p.levels p.cell p.entries.entries };
+    ghost invariant = { λ p. IsPlain p.board p.pivots p.entries.entries };
 }
 
 impl Plain {
@@ -64,8 +62,6 @@ impl Plain {
     {
         Ok(Plain {
             pivots: Pivots::new(alloc, &settings.pivots)?,
-            levels: settings.levels,
-            cell: settings.cell,
             board: Board::open(alloc, settings, 2)?,
             entries: BTreeMap::new(alloc),
         })
@@ -207,7 +203,8 @@ impl Plain {
         let at = self.end();
         let dists = self.pivots.measure(metric, query, steps);
         let mut work = RangeWork::new(alloc, &dists, radius);
-        let levels = self.levels;
+        let settings = self.board.settings();
+        let levels = settings.levels;
         let entries = &self.entries;
         let catalog = self.board.catalog();
         let mut opened = 0;
@@ -247,6 +244,8 @@ impl Plain {
         let Ok(ranks) = ranked(alloc, catalog, &dists) else {
             return Reply::Memory;
         };
+        let settings = self.board.settings();
+        let levels = settings.levels;
         let mut work = NearestWork::new(alloc, count, &dists);
         let mut opened = 0;
         for rank in ranks.iter() {
@@ -255,7 +254,7 @@ impl Plain {
             }
             opened += 1;
             let leaf = catalog.leaf(rank.place);
-            let Some(span) = near_span(leaf, &dists, work.worst(), self.levels) else {
+            let Some(span) = near_span(leaf, &dists, work.worst(), levels) else {
                 unreachable!();
             };
             let Ok(()) = offer_nearest(&self.entries, &span, &mut work, metric, query, steps) else {
@@ -302,7 +301,8 @@ impl Plain {
             let LeafClaim::Taken { leaf } = self.board.claim_leaf(SESSION, perm) else {
                 unreachable!();
             };
-            if !leaf.is_crowded(self.levels, self.cell) {
+            let settings = self.board.settings();
+            if !leaf.is_crowded(settings.levels, settings.cell) {
                 return Ok(leaf);
             }
             self.split(alloc, SESSION, &leaf)?;
@@ -321,6 +321,8 @@ impl Plain {
     {
         // The end of the log tells that it is legal.
         let _ = self.end();
+        let settings = self.board.settings();
+        let levels = settings.levels;
         let Ok(objects) = self.gather(alloc, &leaf.prefix) else {
             self.board.release_leaf(actor);
             return Err(NoMemory);
@@ -329,7 +331,6 @@ impl Plain {
             self.board.release_leaf(actor);
             return Err(NoMemory);
         };
-        let levels = self.levels;
         self.entries.retain(|_, entry| {
             rekey(entry, &leaf.prefix, levels);
             true
@@ -365,7 +366,9 @@ impl Plain {
     {
         let birth = self.end().updates + 1;
         let distance = key_distance(&dists, &permutation(&dists));
-        let cluster = cluster_number(&leaf.prefix, self.pivots.len() as u32, self.levels);
+        let settings = self.board.settings();
+        let levels = settings.levels;
+        let cluster = cluster_number(&leaf.prefix, self.pivots.len() as u32, levels);
         Entry {
             key: Key::make(cluster, distance, id, birth),
             vector: vector.copy(),

@@ -12,14 +12,14 @@ use Rattle.mi_plain.proofs.plain.Plain.care.Goals as goal
 pub invariant_of-self : goal.invariant_of-self
 invariant_of-self c =
     let i = c.self.inside in
-    let P : BoardState → Type 0 = λ x. IsPlain x i.pivots i.levels i.cell i.entries.entries in
-    subst P (sym c.in-Sweep.ensures.1) (plain_beside i.board i.pivots i.levels i.cell i.entries.entries c.self.invariant i.board.actors c.next_work.new.self.retired c.self.invariant.two)
+    let P : BoardState → Type 0 = λ x. IsPlain x i.pivots i.entries.entries in
+    subst P (sym c.in-Sweep.ensures.1) (plain_beside i.board i.pivots i.entries.entries c.self.invariant i.board.actors c.next_work.new.self.retired c.self.invariant.two)
 
 pub invariant_of-self-in-Split : goal.invariant_of-self-in-Split
 invariant_of-self-in-Split c =
     let i = c.self.inside in
-    let P : BoardState → Type 0 = λ x. IsPlain x i.pivots i.levels i.cell i.entries.entries in
-    subst P (sym c.in-Split.ensures.1.1) (plain_actor i.board i.pivots i.levels i.cell i.entries.entries c.self.invariant (claiming c.in-Split.leaf.prefix) 1)
+    let P : BoardState → Type 0 = λ x. IsPlain x i.pivots i.entries.entries in
+    subst P (sym c.in-Split.ensures.1.1) (plain_actor i.board i.pivots i.entries.entries c.self.invariant (claiming c.in-Split.leaf.prefix) 1)
 
 pub split-requires-clause-wanted : goal.split-requires-clause-wanted
 split-requires-clause-wanted c =
@@ -49,4 +49,4 @@ pub returns-in-Idle-clause-done : goal.returns-in-Idle-clause-done
 returns-in-Idle-clause-done c = λ _.
     let i = c.self.inside in
     let idle : NoClaims i.board = subst NoClaims (sym c.self.view_is) c.requires.idle in
-    subst (λ (x : BoardState). Settled x.settings x.log) (sym c.in-Idle.ensures.1.1) (settled i.board i.pivots i.levels i.cell i.entries.entries c.self.invariant idle c.in-Idle.ensures.1.0)
+    subst (λ (x : BoardState). Settled x.settings x.log) (sym c.in-Idle.ensures.1.1) (settled i.board i.pivots i.entries.entries c.self.invariant idle c.in-Idle.ensures.1.0)

@@ -18,7 +18,7 @@ returns-then-not-has-clause-answers c =
 pub invariant_of-self-2 : goal.invariant_of-self-2
 invariant_of-self-2 c =
     let s = c.self.inside in
-    plain_changed s.board s.pivots s.levels s.cell s.entries.entries c.self.invariant c.reserve.new.self (reserving true) 0 c.in-Ok.ensures.1.1
+    plain_changed s.board s.pivots s.entries.entries c.self.invariant c.reserve.new.self (reserving true) 0 c.in-Ok.ensures.1.1
 
 pub returns-clause-answers : goal.returns-clause-answers
 returns-clause-answers c =

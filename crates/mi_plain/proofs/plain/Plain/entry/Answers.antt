@@ -1,4 +1,5 @@
 use Rattle.std.proofs.Common.{◌≡◌, ℕ, ◌∙◌, ◌≤◌, ◌+◌, ap, sym, subst, arith, length, List, true}
+use Rattle.mi_base.specs.Configuration.{Configuration}
 use Rattle.mi_base.specs.Permutations.{key_distance, distance_at_first}
 use Rattle.mi_base.specs.Prefixes.{all_below}
 use Rattle.mi_board.specs.Boards.{BoardState}
@@ -13,7 +14,7 @@ pub cluster_number-cluster-requires-clause-depth :
 cluster_number-cluster-requires-clause-depth c =
     let s = c.args.self.now in
     let fits = found_fits s.settings c.end-birth.ensures.limits s.log c.end-birth.ensures.legal c.args.vector.now c.args.leaf.now c.requires.found in
-    subst (λ n. length c.args.leaf.now.prefix ≤ n) (sym (c.self.invariant.levels_are ∙ ap (λ (x : BoardState). x.settings.levels) c.self.view_is)) fits.0
+    subst (λ n. length c.args.leaf.now.prefix ≤ n) (sym (ap (λ (x : Configuration). x.levels) (c.settings.view_is ∙ c.settings-settings.ensures) ∙ ap (λ (x : BoardState). x.settings.levels) c.self.view_is)) fits.0
 
 pub cluster_number-cluster-requires-clause-pivots :
     goal.cluster_number-cluster-requires-clause-pivots
@@ -35,10 +36,10 @@ returns-clause-kept c =
     let birth = c.end-birth.result.updates + 1 in
     let leaf = c.args.leaf.now in
     let count : c.len.result ≡ length s.settings.pivots = c.len.ensures.value ∙ ap length c.self.invariant.pivots_are ∙ ap (λ (x : BoardState). length x.settings.pivots) c.self.view_is in
-    let levels : c.self.inside.levels ≡ s.settings.levels = c.self.invariant.levels_are ∙ ap (λ (x : BoardState). x.settings.levels) c.self.view_is in
+    let levels : c.settings.inside.levels ≡ s.settings.levels = ap (λ (x : Configuration). x.levels) (c.settings.view_is ∙ c.settings-settings.ensures) ∙ ap (λ (x : BoardState). x.settings.levels) c.self.view_is in
     let prefix = found_prefix s.settings c.end-birth.ensures.limits s.log c.end-birth.ensures.legal v leaf c.requires.found in
     let cluster : c.cluster_number-cluster.result ≡ cluster_of (length s.settings.pivots) s.settings.levels (leaf_of g s.log (g.perm v)) =
-    c.cluster_number-cluster.ensures.number ∙ ap (λ n. cluster_of n c.self.inside.levels leaf.prefix) count ∙ ap (λ n. cluster_of (length s.settings.pivots) n leaf.prefix) levels
+    c.cluster_number-cluster.ensures.number ∙ ap (λ n. cluster_of n c.settings.inside.levels leaf.prefix) count ∙ ap (λ n. cluster_of (length s.settings.pivots) n leaf.prefix) levels
     ∙ ap (λ p. cluster_of (length s.settings.pivots) s.settings.levels p) prefix in
     let distance : c.key_distance-distance.result ≡ g.distance v =
     c.key_distance-distance.ensures.value ∙ ap (λ p. distance_at_first c.args.dists.items p) c.permutation.ensures.value ∙ ap (λ (ds : List ℕ). key_distance ds) c.requires.dists in

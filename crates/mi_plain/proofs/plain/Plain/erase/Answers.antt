@@ -71,5 +71,5 @@ invariant_of-self c =
     let gone : lookup (is_at (nat_cmp id)) (remove_entry (is_at (nat_cmp id)) es) ≡ None = ap (lookup (is_at (nat_cmp id))) (sym c.remove.ensures.entries) ∙ c.remove.ensures.updates.1 in
     let made : c.commit_delete.new.self ≡ with_event (Made 0 c.args.op (Delete id)) (reserving false) 0 (with_actor (claiming p) 0 b) =
     c.in-Ok.ensures.1.1.1 ∙ ap (with_event (Made 0 c.args.op (Delete id)) (reserving false) 0) c.in-Taken.ensures.1.1 in
-    plain_removed b s.pivots s.levels s.cell es c.self.invariant c.release_leaf.new.self c.remove.new.self.entries 0 c.args.op id p gone
+    plain_removed b s.pivots es c.self.invariant c.release_leaf.new.self c.remove.new.self.entries 0 c.args.op id p gone
     (c.release_leaf.ensures ∙ ap (with_actor released 0) made) c.remove.ensures.entries

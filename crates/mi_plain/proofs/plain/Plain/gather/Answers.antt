@@ -18,7 +18,7 @@ returns c =
     let ended = c.in-None.ensures.steps.0 in
     let whole : c.loop-entry.objects.items ≡ gathered p (values_of c.self.inside.entries.entries) =
     sym (append-nil c.loop-entry.objects.items) ∙ ap (λ (es : List Entry). c.loop-entry.objects.items ++ gathered p es) (sym ended) ∙ c.loop-entry.invariant ∙ ap (gathered p) begun in
-    let same = gathered_live b c.self.inside.pivots c.self.inside.levels c.self.inside.cell c.self.inside.entries.entries p c.self.invariant in
+    let same = gathered_live b c.self.inside.pivots c.self.inside.entries.entries p c.self.invariant in
     let now : SameElements c.loop-entry.objects.items (map (placed (grid_in b)) (filter (belongs (grid_in b) p) (live (updates_of b.log)))) =
     subst (λ (xs : List Placed). SameElements xs (map (placed (grid_in b)) (filter (belongs (grid_in b) p) (live (updates_of b.log))))) (sym whole) same in
     subst (λ (x : BoardState). SameElements c.loop-entry.objects.items (map (placed (grid_in x)) (filter (belongs (grid_in x) p) (live (updates_of x.log))))) c.self.view_is now

@@ -30,7 +30,7 @@ measure-dists-requires-clause-pivots g c =
 pub invariant_of-self-2 : goal.invariant_of-self-2
 invariant_of-self-2 g c =
     let s = c.self.inside in
-    plain_changed s.board s.pivots s.levels s.cell s.entries.entries c.self.invariant c.reserve.new.self (reserving true) 0 c.in-Ok.ensures.1.1
+    plain_changed s.board s.pivots s.entries.entries c.self.invariant c.reserve.new.self (reserving true) 0 c.in-Ok.ensures.1.1
 
 pub entry-entry-requires-clause-found : goal.entry-entry-requires-clause-found
 entry-entry-requires-clause-found g c =

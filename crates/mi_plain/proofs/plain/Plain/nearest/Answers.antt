@@ -6,7 +6,7 @@ use Rattle.mi_base.specs.declared.records.Op.TheVariants.{Nearest}
 use Rattle.mi_base.specs.declared.records.Reply.{Reply}
 use Rattle.mi_base.specs.declared.records.Reply.TheVariants as reply
 use Rattle.mi_base.specs.Space.{IsMetric, MetricSpace}
-use Rattle.mi_base.specs.Configuration.{metric_space, space_of}
+use Rattle.mi_base.specs.Configuration.{Configuration, metric_space, space_of}
 use Rattle.mi_base.specs.History.{live, updates_of}
 use Rattle.mi_base.specs.Permutations.{distances}
 use Rattle.mi_base.specs.Prefixes.{all_below}
@@ -96,7 +96,7 @@ near_span-requires-clause-depth g c =
     let leaf = c.leaf-leaf.result.now in
     let same = ap (λ (k : Cells). k.leaves) c.catalog-catalog.ensures ∙ ap (λ (x : BoardState). cells_of x.settings x.log) c.self.view_is in
     let fits = leaf_fits s.settings c.end-at.ensures.limits s.log c.end-at.ensures.legal c.catalog-catalog.result.now.leaves same _ leaf c.leaf-leaf.ensures in
-    let levels : c.self.inside.levels ≡ s.settings.levels = c.self.invariant.levels_are ∙ ap (λ (x : BoardState). x.settings.levels) c.self.view_is in
+    let levels : c.settings.inside.levels ≡ s.settings.levels = ap (λ (x : Configuration). x.levels) (c.settings.view_is ∙ c.settings-settings.ensures) ∙ ap (λ (x : BoardState). x.settings.levels) c.self.view_is in
     subst (λ (n : ℕ). length leaf.prefix ≤ n) (sym levels) fits.0
 
 pub offer_nearest-requires-clause-measured : goal.offer_nearest-requires-clause-measured
@@ -132,7 +132,7 @@ loop-rank-preserved g c =
     let kept = subst (λ (x : BoardState). AllByRecursion (λ (e : ℕ × Entry). IsKept x.settings x.log e.0 e.1) es) c.self.view_is c.self.invariant.kept in
     let same = subst (λ (x : BoardState). SameElements (map object_in es) (live (updates_of x.log))) c.self.view_is c.self.invariant.same in
     let metric : IsMetric (metric_space k) = subst IsMetric c.requires.space (g.met.M.Metric.laws c.args.metric.now) in
-    let levels : c.self.inside.levels ≡ k.levels = c.self.invariant.levels_are ∙ ap (λ (x : BoardState). x.settings.levels) c.self.view_is in
+    let levels : c.settings.inside.levels ≡ k.levels = ap (λ (x : Configuration). x.levels) (c.settings.view_is ∙ c.settings-settings.ensures) ∙ ap (λ (x : BoardState). x.settings.levels) c.self.view_is in
     let leaf = c.leaf-leaf.result.now in
     let at : slice_get cells r.place ≡ Some leaf = subst (λ (ls : List Leaf). slice_get ls r.place ≡ Some leaf) leaves c.leaf-leaf.ensures in
     let work = c.loop-rank.work in

@@ -5,7 +5,7 @@ use Rattle.std.proofs.lemmas.List.{take_all}
 use Rattle.mi_base.specs.declared.records.Op.TheVariants.{Range}
 use Rattle.mi_base.specs.declared.records.Reply.{Reply}
 use Rattle.mi_base.specs.Space.{IsMetric, MetricSpace}
-use Rattle.mi_base.specs.Configuration.{metric_space, space_of}
+use Rattle.mi_base.specs.Configuration.{Configuration, metric_space, space_of}
 use Rattle.mi_base.specs.History.{live, updates_of}
 use Rattle.mi_base.specs.Permutations.{distances}
 use Rattle.mi_base.specs.Prefixes.{all_below}
@@ -59,7 +59,7 @@ span-span-requires-clause-depth g c =
     let leaf = c.leaf-leaf.result.now in
     let same = ap (λ (k : Cells). k.leaves) c.catalog-catalog.ensures ∙ ap (λ (x : BoardState). cells_of x.settings x.log) c.self.view_is in
     let fits = leaf_fits s.settings c.end-at.ensures.limits s.log c.end-at.ensures.legal c.catalog-catalog.result.now.leaves same c.loop-place.place leaf c.leaf-leaf.ensures in
-    let levels : c.self.inside.levels ≡ s.settings.levels = c.self.invariant.levels_are ∙ ap (λ (x : BoardState). x.settings.levels) c.self.view_is in
+    let levels : c.settings.inside.levels ≡ s.settings.levels = ap (λ (x : Configuration). x.levels) (c.settings.view_is ∙ c.settings-settings.ensures) ∙ ap (λ (x : BoardState). x.settings.levels) c.self.view_is in
     subst (λ (n : ℕ). length leaf.prefix ≤ n) (sym levels) fits.0
 
 pub offer_span-requires-clause-measured : goal.offer_span-requires-clause-measured
@@ -93,7 +93,7 @@ loop-place-preserved g c =
           let step = rw w.if-passes.true at one in
           record {
             takes = rw (w.work-is, w.steps-is)
-                (opened_taken m query c.new-work.result c.loop-place.work w.offer_span.new.work c.measure-dists.new.steps c.loop-place.steps w.offer_span.new.steps dq c.args.radius c.self.inside.levels es cells c.loop-place.place leaf
+                (opened_taken m query c.new-work.result c.loop-place.work w.offer_span.new.work c.measure-dists.new.steps c.loop-place.steps w.offer_span.new.steps dq c.args.radius c.settings.inside.levels es cells c.loop-place.place leaf
                 w.span-span.result here (sym c.passes.ensures ∙ w.if-passes.true) w.span-span.ensures c.loop-place.invariant.takes w.in-Ok.ensures);
             counted = omega (arith, step, so_far, w.opened-is);
             few = omega (arith, counted, w.opened-is);
@@ -102,7 +102,7 @@ loop-place-preserved g c =
           let step = rw w.if-passes.false at one in
           record {
             takes = rw (w.work-is, w.steps-is)
-                (opened_passed m query c.new-work.result c.loop-place.work c.measure-dists.new.steps c.loop-place.steps dq c.args.radius c.self.inside.levels es cells c.loop-place.place leaf
+                (opened_passed m query c.new-work.result c.loop-place.work c.measure-dists.new.steps c.loop-place.steps dq c.args.radius c.settings.inside.levels es cells c.loop-place.place leaf
                 here (sym c.passes.ensures ∙ w.if-passes.false) c.loop-place.invariant.takes);
             counted = omega (arith, step, so_far, w.opened-is);
             few = omega (arith, counted, w.opened-is);
@@ -125,12 +125,12 @@ both g c =
     let kept = subst (λ (x : BoardState). AllByRecursion (λ (e : ℕ × Entry). IsKept x.settings x.log e.0 e.1) es) c.self.view_is c.self.invariant.kept in
     let same = subst (λ (x : BoardState). SameElements (map object_in es) (live (updates_of x.log))) c.self.view_is c.self.invariant.same in
     let pivots : c.self.inside.pivots ≡ k.pivots = c.self.invariant.pivots_are ∙ ap (λ (x : BoardState). x.settings.pivots) c.self.view_is in
-    let levels : c.self.inside.levels ≡ k.levels = c.self.invariant.levels_are ∙ ap (λ (x : BoardState). x.settings.levels) c.self.view_is in
+    let levels : c.settings.inside.levels ≡ k.levels = ap (λ (x : Configuration). x.levels) (c.settings.view_is ∙ c.settings-settings.ensures) ∙ ap (λ (x : BoardState). x.settings.levels) c.self.view_is in
     let dq : c.measure-dists.result.items ≡ distances (space_of k) query =
     measured_by k _ c.self.inside.pivots query c.measure-dists.result.items c.measure-dists.ensures.distances c.requires.space pivots in
     let leaves = ap (λ (x : Cells). x.leaves) c.catalog-catalog.ensures ∙ ap (λ (x : BoardState). cells_of x.settings x.log) c.self.view_is in
     let whole : length cells ≤ c.loop-place.place = omega (arith, c.loop-place-test.false, c.len-place-end.ensures, ap length leaves) in
-    let taken = taken_all k s.log query radius es M c.measure-dists.result.items c.self.inside.levels c.loop-place.place c.new-work.result c.loop-place.work c.measure-dists.new.steps c.loop-place.steps c.requires.space dq levels whole c.loop-place.invariant.takes in
+    let taken = taken_all k s.log query radius es M c.measure-dists.result.items c.settings.inside.levels c.loop-place.place c.new-work.result c.loop-place.work c.measure-dists.new.steps c.loop-place.steps c.requires.space dq levels whole c.loop-place.invariant.takes in
     let first_dists = c.new-work.ensures.dists ∙ dq in
     let begun : c.new-work.result.distances ≡ length k.pivots = c.new-work.ensures.distances ∙ c.measure-dists.ensures.count ∙ ap length pivots in
     let metric : IsMetric (metric_space k) = subst IsMetric c.requires.space (g.met.M.Metric.laws c.args.metric.now) in

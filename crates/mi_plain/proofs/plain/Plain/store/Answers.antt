@@ -18,8 +18,8 @@ key_distance-distance-requires c =
 pub invariant_of-self : goal.invariant_of-self
 invariant_of-self c =
     let s = c.self.inside in
-    subst (λ es. IsPlain c.release_leaf.new.self s.pivots s.levels s.cell es) (sym c.in_default.ensures.err)
-    (plain_changed s.board s.pivots s.levels s.cell s.entries.entries c.self.invariant c.release_leaf.new.self released 0 c.release_leaf.ensures)
+    subst (λ es. IsPlain c.release_leaf.new.self s.pivots es) (sym c.in_default.ensures.err)
+    (plain_changed s.board s.pivots s.entries.entries c.self.invariant c.release_leaf.new.self released 0 c.release_leaf.ensures)
 
 pub unreachable-requires : goal.unreachable-requires
 unreachable-requires c =
@@ -42,5 +42,5 @@ invariant_of-self-2 c =
     let kept : IsKept b.settings b.log c.args.id e = subst (λ (x : BoardState). IsKept x.settings x.log c.args.id e) (sym c.self.view_is) c.requires.kept in
     let made : c.commit_insert.new.self ≡ with_event (Made 0 c.args.op (Insert c.args.id e.vector)) (reserving false) 0 b =
     c.in-Ok-commit_insert.ensures.1.1.1 ∙ ap (λ v. with_event (Made 0 c.args.op (Insert c.args.id v)) (reserving false) 0 b) c.copy-vector.ensures in
-    plain_inserted b s.pivots s.levels s.cell s.entries.entries c.self.invariant c.release_leaf-2.new.self c.insert.new.self.entries 0 c.args.op c.args.id e absent kept
+    plain_inserted b s.pivots s.entries.entries c.self.invariant c.release_leaf-2.new.self c.insert.new.self.entries 0 c.args.op c.args.id e absent kept
     (c.release_leaf-2.ensures ∙ ap (with_actor released 0) made) c.in-Ok.ensures.entries
