@@ -121,9 +121,6 @@ pub record Walked (k : ℕ) (leaves : List Leaf) (rows_of : Leaf → List Row) (
   pub rows_are : rows ≡ first_rows k (rows_at leaves rows_of done)
   pub few : AllByRecursion (λ r. nearer r.bound (rows_at leaves rows_of done) < k) done
 
-pub walked_none : (k : ℕ) (leaves : List Leaf) (rows_of : Leaf → List Row) (rows : List Row) → rows ≡ first_rows k [] → Walked k leaves rows_of [] rows
-walked_none k leaves rows_of rows e = record { rows_are = e; few = tt }
-
 rows_more : (leaves : List Leaf) (rows_of : Leaf → List Row) (done : List Rank) (r : Rank) (leaf : Leaf) → slice_get leaves r.place ≡ Some leaf
     → rows_at leaves rows_of (done ++ r ∷ []) ≡ rows_at leaves rows_of done ++ rows_of leaf
 rows_more leaves rows_of done r leaf at =

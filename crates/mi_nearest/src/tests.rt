@@ -33,6 +33,17 @@ fn entry(id: Id, vector: Vector, dists: Dists) -> Entry
     }
 }
 
+/// The query stops at each bound above the greatest distance kept, once that is told, and at no other.
+fn check_stops(rt: &impl Abort, work: &NearestWork) {
+    match work.worst() {
+        None => assert!(rt; !work.stops_at(u32::MAX)),
+        Some(worst) => {
+            assert!(rt; !work.stops_at(worst));
+            assert!(rt; work.stops_at(worst.saturating_add(1)));
+        }
+    }
+}
+
 /// What a query answers that is offered these objects in this order, and the greatest distance kept then.
 fn counted<M: Metric, L: Ledger>(
     rt: &impl Abort,
@@ -62,6 +73,7 @@ fn counted<M: Metric, L: Ledger>(
         let entry = entry(id, vector, dists);
         work.take(&entry, metric, query, &mut steps);
     }
+    check_stops(rt, &work);
     let worst = work.worst();
     let at = Position {
         updates: 7,

@@ -25,13 +25,6 @@ entry_begins p e = begins p (permutation_of e.dists.items)
 abbrev pub gathered : List ℕ → List Entry → List Placed
 gathered p es = map placed_entry (filter (entry_begins p) es)
 
--- one entry more that begins with the prefix, or another
-pub gather_in : (p : List ℕ) (e : Entry) (es : List Entry) → entry_begins p e ≡ true → gathered p (e ∷ es) ≡ placed_entry e ∷ gathered p es
-gather_in p e es h = rw h refl
-
-pub gather_out : (p : List ℕ) (e : Entry) (es : List Entry) → entry_begins p e ≡ false → gathered p (e ∷ es) ≡ gathered p es
-gather_out p e es h = rw h refl
-
 -- the entries of a map are gathered as its objects are
 gathered_objects : (c : Configuration) (log : List LogEvent) (p : List ℕ) (entries : List (ℕ × Entry)) → AllByRecursion (λ e. IsKept c log e.0 e.1) entries
     → gathered p (values_of entries) ≡ map (placed (grid_for c)) (filter (belongs (grid_for c) p) (map object_in entries))

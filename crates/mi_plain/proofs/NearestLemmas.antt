@@ -4,7 +4,6 @@ use Rattle.std.specs.Prelude.{IfSome, is_some, slice_get}
 use Rattle.std.specs.List.{AllByRecursion, filter, flat_map, sum_by}
 use Rattle.std.proofs.lemmas.Bool.{false≢true, leb-false, leb-true, ltb-false, ltb-true}
 use Rattle.std.proofs.lemmas.List.{length-map, nil_from_length}
-use Rattle.std.proofs.lemmas.List.Elements.{recursion_from_All}
 use Rattle.std.proofs.lemmas.List.Sums.{sum_by-append, sum_by-cons}
 use Rattle.mi_base.specs.declared.records.LogEvent.{LogEvent}
 use Rattle.mi_base.specs.declared.records.Op.TheVariants as Op
@@ -40,7 +39,7 @@ use Rattle.mi_tree.specs.Counting.{belongs, held, in_hull, leaf_with}
 use Rattle.mi_tree.specs.Legal.{LegalLog, cells_of}
 use Rattle.mi_tree.specs.Passing.{IsBound, hull_passes, kth_distance, reached, reached_objects}
 use Rattle.mi_tree.proofs.CatLemmas.{held_live}
-use Rattle.mi_tree.proofs.FitLemmas.{Fits, leaves_fit}
+use Rattle.mi_tree.proofs.FitLemmas.{Fits}
 use Rattle.mi_tree.proofs.LeafLemmas.{begins_take, one_leaf}
 use Rattle.mi_tree.proofs.LegalLemmas.{all_may}
 use Rattle.mi_tree.proofs.ListLemmas.{all_any, all_map, all_weaker, filter_map, map_twice}
@@ -48,6 +47,7 @@ use Rattle.mi_plain.specs.Answering.{Answers}
 use Rattle.mi_plain.specs.Opening.{offerings, spanned}
 use Rattle.mi_plain.specs.Plain.{IsKept, grid_for, object_in}
 use Rattle.mi_plain.proofs.KeyLemmas.{distance_fits}
+use Rattle.mi_plain.proofs.OpenedLemmas.{cells_fit, leaf_fits}
 use Rattle.mi_plain.proofs.RangeLemmas.{at_end, end_events, end_is, objects_offered}
 use Rattle.mi_plain.proofs.SpanLemmas.{Covered, all_covered, cluster_is, own_empty, own_fits}
 use Rattle.mi_plain.proofs.SummingLemmas.{one_passes, sum_both, sum_none, sum_same, weigh, weigh_one}
@@ -338,7 +338,7 @@ module _ (c : Configuration) (limits : IsWithinLimits c) (log : List LogEvent) (
         (
           found.1.1,
           record {
-            fit = all_at F (leaves g log) i found.0 (recursion_from_All F (leaves g log) (leaves_fit g ok log may)) found.1.0;
+            fit = subst F (ap (λ (l : Leaf). l.prefix) found.1.1) (leaf_fits c limits log legal (cells_of c log) refl i leaf at);
             only = λ v.
                 let perm = g.perm v in
                 let own = leaf_of g log perm in
@@ -384,13 +384,9 @@ module _ (c : Configuration) (limits : IsWithinLimits c) (log : List LogEvent) (
   -- the prefixes of all cells are of pivots that there are
   pub cells_below : (n : ℕ) → n ≡ length c.pivots → (ls : List Leaf) → ls ≡ cells_of c log → AllByRecursion (λ leaf. IsTrue (all_below n leaf.prefix)) ls
   cells_below n n_is ls ls_are =
-      let g = grid_for c in
       let B : Leaf → Type 0 = λ leaf. IsTrue (all_below n leaf.prefix) in
-      let F = Fits (length c.pivots) c.levels in
-      let fit : AllByRecursion F (leaves g log) = recursion_from_All F (leaves g log) (leaves_fit g (is_grid c limits log legal) log (all_may c log legal)) in
-      let low : AllByRecursion (λ (p : List ℕ). B (leaf_with g (held g log) p)) (leaves g log) =
-      all_weaker F (λ (p : List ℕ). B (leaf_with g (held g log) p)) (λ p f. subst (λ (k : ℕ). IsTrue (all_below k p)) (sym n_is) f.1) (leaves g log) fit in
-      subst (AllByRecursion B) (sym ls_are) (all_map (leaf_with g (held g log)) B (leaves g log) low)
+      let F : Leaf → Type 0 = λ leaf. Fits (length c.pivots) c.levels leaf.prefix in
+      subst (AllByRecursion B) (sym ls_are) (all_weaker F B (λ leaf f. subst (λ (k : ℕ). IsTrue (all_below k leaf.prefix)) (sym n_is) f.1) (cells_of c log) (cells_fit c limits log legal))
 
   -- one leaf more was opened
   pub record Opened (es : List (ℕ × Entry)) (count : ℕ) (done : List Rank) (r : Rank) (leaf : Leaf) (rows : List Row) (n k : ℕ) : Type 0 where

@@ -1,5 +1,5 @@
 -- How many leaves there are, and how many of them a query opens.
-use Rattle.std.proofs.Common.{◌≡◌, ℕ, suc, zero, ◌+◌, ◌*◌, ◌<◌, ◌≤◌, List, [], ◌∷◌, ◌++◌, length, take, get_or, Bool, true, false, cond, not, ◌&&◌, nat_eq, nat_lt, refl, sym, ap, ◌∙◌, subst, arith, length-append}
+use Rattle.std.proofs.Common.{◌≡◌, ℕ, suc, ◌+◌, ◌*◌, ◌<◌, ◌≤◌, List, [], ◌∷◌, ◌++◌, length, take, get_or, Bool, true, false, cond, not, ◌&&◌, nat_eq, nat_lt, refl, sym, ap, ◌∙◌, subst, arith, length-append}
 use Rattle.std.specs.Prelude.{slice_get, Some, count_by}
 use Rattle.std.specs.List.{AllByRecursion, filter, flat_map, fold, range_with_len}
 use Rattle.std.proofs.lemmas.Bool.{false≢true}
@@ -25,6 +25,7 @@ use Rattle.mi_tree.proofs.ListLemmas.{all_map}
 use Rattle.mi_tree.proofs.LeafLemmas.{same_cell_is}
 use Rattle.mi_tree.proofs.LegalLemmas.{grid, all_may}
 use Rattle.mi_tree.proofs.OrderLemmas.{InOrder, order_from_test, split_keeps_order, first_leaves_in_order}
+use Rattle.mi_nearest.proofs.WalkLemmas.{all_at}
 use Rattle.mi_board.proofs.BoardLemmas.{is_grid, log_short}
 
 -- nothing comes before itself
@@ -105,22 +106,16 @@ module _ (c : Configuration) (limits : IsWithinLimits c) (log : List LogEvent) (
       omega (arith, all, most, first_few n, limits.few_pivots, length-map (leaves g log) (leaf_with g (held g log)))
 
   -- the prefix of each is of at most so many of the pivots
-  cells_fit : AllByRecursion (λ (l : Leaf). Fits (length c.pivots) c.levels l.prefix) (cells_of c log)
+  pub cells_fit : AllByRecursion (λ (l : Leaf). Fits (length c.pivots) c.levels l.prefix) (cells_of c log)
   cells_fit =
       let g = grid c in
       all_map (leaf_with g (held g log)) (λ l. Fits (length c.pivots) c.levels l.prefix) (leaves g log)
       (recursion_from_All (Fits g.pivots g.levels) (leaves g log) (leaves_fit g (is_grid c limits log legal) log (all_may c log legal)))
 
--- what holds of all holds of the one at a place
-at_place : {X : Type 0} (P : X → Type 0) (xs : List X) (i : ℕ) (x : X) → AllByRecursion P xs → slice_get xs i ≡ Some x → P x
-at_place P [] i x h at = cc
-at_place P (y ∷ xs) zero x h at = let same : y ≡ x = cc in subst P same h.0
-at_place P (y ∷ xs) (suc i) x h at = at_place P xs i x h.1 at
-
--- so the leaf at a place fits
+-- the leaf at a place fits
 pub leaf_fits : (c : Configuration) → IsWithinLimits c → (log : List LogEvent) → LegalLog c log → (ls : List Leaf) → ls ≡ cells_of c log → (i : ℕ) (leaf : Leaf) → slice_get ls i ≡ Some leaf → Fits (length c.pivots) c.levels leaf.prefix
 leaf_fits c limits log legal ls same i leaf at =
-    at_place (λ (l : Leaf). Fits (length c.pivots) c.levels l.prefix) ls i leaf (subst (AllByRecursion (λ (l : Leaf). Fits (length c.pivots) c.levels l.prefix)) (sym same) (cells_fit c limits log legal)) at
+    all_at (λ (l : Leaf). Fits (length c.pivots) c.levels l.prefix) ls i leaf (subst (AllByRecursion (λ (l : Leaf). Fits (length c.pivots) c.levels l.prefix)) (sym same) (cells_fit c limits log legal)) at
 
 -- one more of a list passes a test, or not
 pub counted_more : {X : Type 0} (p : X → Bool) (xs : List X) (i : ℕ) (x : X) → slice_get xs i ≡ Some x → (b : Bool) → p x ≡ b → count_by p (take (i + 1) xs) ≡ count_by p (take i xs) + cond b 1 0
