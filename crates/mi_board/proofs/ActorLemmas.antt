@@ -4,7 +4,7 @@ use Rattle.std.specs.Prelude.{slice_set, count_by}
 use Rattle.std.proofs.lemmas.Bool.{false≢true, or_parts}
 use Rattle.std.proofs.lemmas.List.Sums.{sum_by-cons}
 use Rattle.mi_board.specs.declared.actors.ActorState.{ActorState}
-use Rattle.mi_board.specs.Actors.{actor_at, change, claiming, released, reserving, is_claim, is_claimed}
+use Rattle.mi_board.specs.Actors.{actor_at, change, with_claim, without_claim, with_reserved, is_claim, is_claimed}
 use Rattle.mi_board.specs.Kept.{ClaimStands, ClaimsStand}
 use Rattle.mi_tree.specs.declared.outcomes.Leaf.{Leaf}
 use Rattle.mi_tree.specs.Cells.{same_cell}
@@ -38,18 +38,18 @@ pub reserved-cons : (a : ActorState) (states : List ActorState) → reserved (a 
 reserved-cons a states = sum_by-cons (λ (x : ActorState). one_if x.reserved) a states
 
 -- one actor more has reserved, at most
-pub reserve_one : (i : ℕ) (states : List ActorState) → reserved (change (reserving true) i states) ≤ reserved states + 1
+pub reserve_one : (i : ℕ) (states : List ActorState) → reserved (change (with_reserved true) i states) ≤ reserved states + 1
 reserve_one i [] = omega arith
-reserve_one zero (a ∷ states) = omega (arith, reserved-cons a states, reserved-cons (reserving true a) states)
-reserve_one (suc i) (a ∷ states) = omega (arith, reserved-cons a states, reserved-cons a (change (reserving true) i states), reserve_one i states)
+reserve_one zero (a ∷ states) = omega (arith, reserved-cons a states, reserved-cons (with_reserved true a) states)
+reserve_one (suc i) (a ∷ states) = omega (arith, reserved-cons a states, reserved-cons a (change (with_reserved true) i states), reserve_one i states)
 
 -- one actor less, exactly
-pub commit_one : (i : ℕ) (states : List ActorState) → (actor_at states i).reserved ≡ true → reserved (change (reserving false) i states) + 1 ≡ reserved states
+pub commit_one : (i : ℕ) (states : List ActorState) → (actor_at states i).reserved ≡ true → reserved (change (with_reserved false) i states) + 1 ≡ reserved states
 commit_one i [] h = absurd (false≢true h)
 commit_one zero (a ∷ states) h =
     let one : one_if a.reserved ≡ 1 = rw h refl in
-    omega (arith, reserved-cons a states, reserved-cons (reserving false a) states, one)
-commit_one (suc i) (a ∷ states) h = omega (arith, reserved-cons a states, reserved-cons a (change (reserving false) i states), commit_one i states h)
+    omega (arith, reserved-cons a states, reserved-cons (with_reserved false a) states, one)
+commit_one (suc i) (a ∷ states) h = omega (arith, reserved-cons a states, reserved-cons a (change (with_reserved false) i states), commit_one i states h)
 
 -- a claim changes no reservation
 pub claim_count : (f : ActorState → ActorState) → ((a : ActorState) → (f a).reserved ≡ a.reserved) → (i : ℕ) (states : List ActorState) → reserved (change f i states) ≡ reserved states
@@ -78,29 +78,29 @@ stands_after f keep ls i states None h = tt
 stands_after f keep ls i states (Some p) h = (h.0, free_after f p (keep p) i states h.1)
 
 -- reserving keeps the claims
-pub claims_reserving : (b : Bool) (ls : List Leaf) (i : ℕ) (states : List ActorState) → ClaimsStand ls states → ClaimsStand ls (change (reserving b) i states)
+pub claims_reserving : (b : Bool) (ls : List Leaf) (i : ℕ) (states : List ActorState) → ClaimsStand ls states → ClaimsStand ls (change (with_reserved b) i states)
 claims_reserving b ls i [] h = tt
 claims_reserving b ls zero (a ∷ states) h = h
-claims_reserving b ls (suc i) (a ∷ states) h = (stands_after (reserving b) (λ q x k. k) ls i states a.claim h.0, claims_reserving b ls i states h.1)
+claims_reserving b ls (suc i) (a ∷ states) h = (stands_after (with_reserved b) (λ q x k. k) ls i states a.claim h.0, claims_reserving b ls i states h.1)
 
 -- a release keeps the others
-pub claims_released : (ls : List Leaf) (i : ℕ) (states : List ActorState) → ClaimsStand ls states → ClaimsStand ls (change released i states)
+pub claims_released : (ls : List Leaf) (i : ℕ) (states : List ActorState) → ClaimsStand ls states → ClaimsStand ls (change without_claim i states)
 claims_released ls i [] h = tt
 claims_released ls zero (a ∷ states) h = (tt, h.1)
-claims_released ls (suc i) (a ∷ states) h = (stands_after released (λ q x k. refl) ls i states a.claim h.0, claims_released ls i states h.1)
+claims_released ls (suc i) (a ∷ states) h = (stands_after without_claim (λ q x k. refl) ls i states a.claim h.0, claims_released ls i states h.1)
 
 -- a claim of another leaf leaves a prefix free
-claimed_beside : (p q : List ℕ) → same_cell q p ≡ false → (i : ℕ) (states : List ActorState) → is_claimed q states ≡ false → is_claimed q (change (claiming p) i states) ≡ false
+claimed_beside : (p q : List ℕ) → same_cell q p ≡ false → (i : ℕ) (states : List ActorState) → is_claimed q states ≡ false → is_claimed q (change (with_claim p) i states) ≡ false
 claimed_beside p q other i [] h = refl
 claimed_beside p q other zero (a ∷ states) h = rw (other, (or_parts (is_claim q a.claim) (is_claimed q states) h).1) refl
 claimed_beside p q other (suc i) (a ∷ states) h = let parts = or_parts (is_claim q a.claim) (is_claimed q states) h in rw (parts.0, claimed_beside p q other i states parts.1) refl
 
-claim_stands_beside : (p : List ℕ) (ls : List Leaf) (i : ℕ) (states : List ActorState) (o : Option (List ℕ)) → is_claim p o ≡ false → ClaimStands ls states o → ClaimStands ls (change (claiming p) i states) o
+claim_stands_beside : (p : List ℕ) (ls : List Leaf) (i : ℕ) (states : List ActorState) (o : Option (List ℕ)) → is_claim p o ≡ false → ClaimStands ls states o → ClaimStands ls (change (with_claim p) i states) o
 claim_stands_beside p ls i states None other h = tt
 claim_stands_beside p ls i states (Some q) other h = (h.0, claimed_beside p q (same_cell-symmetric p q other) i states h.1)
 
 -- a claim of a free leaf stands beside the others
-pub claims_claiming : (p : List ℕ) (ls : List Leaf) → has_leaf p ls ≡ true → (i : ℕ) (states : List ActorState) → is_claimed p states ≡ false → ClaimsStand ls states → ClaimsStand ls (change (claiming p) i states)
+pub claims_claiming : (p : List ℕ) (ls : List Leaf) → has_leaf p ls ≡ true → (i : ℕ) (states : List ActorState) → is_claimed p states ≡ false → ClaimsStand ls states → ClaimsStand ls (change (with_claim p) i states)
 claims_claiming p ls leaf i [] free h = tt
 claims_claiming p ls leaf zero (a ∷ states) free h = ((leaf, (or_parts (is_claim p a.claim) (is_claimed p states) free).1), h.1)
 claims_claiming p ls leaf (suc i) (a ∷ states) free h =
@@ -133,12 +133,12 @@ claimed_later p q i [] at h = cc
 claimed_later p q zero (a ∷ states) at h = sym (ap (is_claim q) at) ∙ (or_parts (is_claim q a.claim) (is_claimed q states) h).0
 claimed_later p q (suc i) (a ∷ states) at h = claimed_later p q i states at (or_parts (is_claim q a.claim) (is_claimed q states) h).1
 
-split_stands : (p : List ℕ) (ls ms : List Leaf) → ((q : List ℕ) → has_leaf q ls ≡ true → same_cell p q ≡ false → has_leaf q ms ≡ true) → (i : ℕ) (states : List ActorState) → (actor_at states i).claim ≡ Some p → (o : Option (List ℕ)) → ClaimStands ls states o → ClaimStands ms (change released i states) o
+split_stands : (p : List ℕ) (ls ms : List Leaf) → ((q : List ℕ) → has_leaf q ls ≡ true → same_cell p q ≡ false → has_leaf q ms ≡ true) → (i : ℕ) (states : List ActorState) → (actor_at states i).claim ≡ Some p → (o : Option (List ℕ)) → ClaimStands ls states o → ClaimStands ms (change without_claim i states) o
 split_stands p ls ms keep i states at None h = tt
-split_stands p ls ms keep i states at (Some q) h = (keep q h.0 (same_cell-symmetric q p (claimed_later p q i states at h.1)), free_after released q (λ a k. refl) i states h.1)
+split_stands p ls ms keep i states at (Some q) h = (keep q h.0 (same_cell-symmetric q p (claimed_later p q i states at h.1)), free_after without_claim q (λ a k. refl) i states h.1)
 
 -- the claims stand after a split of the leaf that an actor claimed
-pub claims_split : (p : List ℕ) (ls ms : List Leaf) → ((q : List ℕ) → has_leaf q ls ≡ true → same_cell p q ≡ false → has_leaf q ms ≡ true) → (i : ℕ) (states : List ActorState) → (actor_at states i).claim ≡ Some p → ClaimsStand ls states → ClaimsStand ms (change released i states)
+pub claims_split : (p : List ℕ) (ls ms : List Leaf) → ((q : List ℕ) → has_leaf q ls ≡ true → same_cell p q ≡ false → has_leaf q ms ≡ true) → (i : ℕ) (states : List ActorState) → (actor_at states i).claim ≡ Some p → ClaimsStand ls states → ClaimsStand ms (change without_claim i states)
 claims_split p ls ms keep i [] at h = tt
 claims_split p ls ms keep zero (a ∷ states) at h =
     let mine : ClaimStands ls states (Some p) = subst (ClaimStands ls states) at h.0 in

@@ -20,7 +20,7 @@ use Rattle.mi_base.proofs.SortingLemmas.{same_length}
 use Rattle.mi_tree.specs.declared.outcomes.Leaf.{Leaf}
 use Rattle.mi_tree.specs.declared.counts.Placed.{Placed}
 use Rattle.mi_tree.specs.Cells.{IsGrid, leaves}
-use Rattle.mi_tree.specs.Counting.{removed, parted, belongs, placed, held, leaf_with, has_leaf, is_crowded, is_overfull}
+use Rattle.mi_tree.specs.Counting.{with_removed, split_leaf, belongs, placed_object, population, leaf_with, has_leaf, is_crowded, is_overfull}
 use Rattle.mi_tree.specs.Legal.{MayFollow, IsUncrowded, LegalLog, cells_of}
 use Rattle.mi_tree.proofs.CatLemmas.{cat-insert, cat-delete, cat-split, held_live}
 use Rattle.mi_tree.proofs.CountLemmas.{counts_some, cat_has}
@@ -50,9 +50,9 @@ module _ (c : Configuration) (limits : IsWithinLimits c) (log : List LogEvent) (
   counts_room perm =
       let g = grid c in
       let P : Leaf → Type 0 = λ l. begins l.prefix perm ≡ true → l.count < 4294967295 in
-      let one : (p : List ℕ) → P (leaf_with g (held g log) p) = λ p _.
-      omega (arith, length_filter (belongs g p) (held g log).live, ap length (held_live g log), few_live (updates_of log), legal.few, limits.updates.1) in
-      All-from_recursion P (cells_of c log) (all_map (leaf_with g (held g log)) P (leaves g log) (all_any _ one (leaves g log)))
+      let one : (p : List ℕ) → P (leaf_with g (population g log) p) = λ p _.
+      omega (arith, length_filter (belongs g p) (population g log).live, ap length (held_live g log), few_live (updates_of log), legal.few, limits.updates.1) in
+      All-from_recursion P (cells_of c log) (all_map (leaf_with g (population g log)) P (leaves g log) (all_any _ one (leaves g log)))
 
   module _ (session op id : ℕ) (v : List ℤ) where
     -- an insert into a leaf that isn't crowded
@@ -68,9 +68,9 @@ module _ (c : Configuration) (limits : IsWithinLimits c) (log : List LogEvent) (
     whole = subst (λ (n : ℕ). SameElements (live (updates_of log)) (one.object ∷ filter (λ (x : Object). not (x.id == n)) (live (updates_of log)))) (sym one.named) one.whole
 
     -- the cells after the delete
-    pub delete_cells : (session op : ℕ) → cells_of c (log ++ Made session op (Delete id) ∷ []) ≡ map (removed ((grid c).perm one.object.vector)) (cells_of c log)
+    pub delete_cells : (session op : ℕ) → cells_of c (log ++ Made session op (Delete id) ∷ []) ≡ map (with_removed ((grid c).perm one.object.vector)) (cells_of c log)
     delete_cells session op =
-        subst (λ (n : ℕ). cells_of c (log ++ Made session op (Delete n) ∷ []) ≡ map (removed ((grid c).perm one.object.vector)) (cells_of c log)) one.named (cat-delete (grid c) log session op one.object whole)
+        subst (λ (n : ℕ). cells_of c (log ++ Made session op (Delete n) ∷ []) ≡ map (with_removed ((grid c).perm one.object.vector)) (cells_of c log)) one.named (cat-delete (grid c) log session op one.object whole)
 
     -- the object's leaf counts it
     pub counted : All (λ l. begins l.prefix ((grid c).perm one.object.vector) ≡ true → 0 < l.count) (cells_of c log)
@@ -86,16 +86,16 @@ module _ (c : Configuration) (limits : IsWithinLimits c) (log : List LogEvent) (
         let few = ap (list_any (is_overfull c.levels c.cell)) (delete_cells session op) ∙ removed_fits ((grid c).perm one.object.vector) c.levels c.cell (cells_of c log) uncrowded in
         legal_more c log (Made session op (Delete id)) legal is_there few (omega (arith, room, length-entered log session op (Delete id)))
 
-  module _ (p : List ℕ) (may : MayFollow c log (Split p)) (objects : List Placed) (same : SameElements objects (map (placed (grid c)) (filter (belongs (grid c) p) (live (updates_of log))))) where
+  module _ (p : List ℕ) (may : MayFollow c log (Split p)) (objects : List Placed) (same : SameElements objects (map (placed_object (grid c)) (filter (belongs (grid c) p) (live (updates_of log))))) where
     -- the cells after the split
-    pub split_cells : cells_of c (log ++ Split p ∷ []) ≡ flat_map (parted (length c.pivots) p objects) (cells_of c log)
+    pub split_cells : cells_of c (log ++ Split p ∷ []) ≡ flat_map (split_leaf (length c.pivots) p objects) (cells_of c log)
     split_cells = cat-split (grid c) is_grid log (all_may c log legal) p (wanted c log p may).0 objects same
 
     -- the split's objects are few
     pub split_few : length objects ≤ 4 * c.cell
     split_few =
-        let n = wanted_few (grid c) (held (grid c) log) c.levels c.cell p (leaves (grid c) log) may uncrowded in
-        omega (arith, n, same_length _ _ same, length-map (filter (belongs (grid c) p) (live (updates_of log))) (placed (grid c)), ap (λ (xs : List Object). length (filter (belongs (grid c) p) xs)) (held_live (grid c) log))
+        let n = wanted_few (grid c) (population (grid c) log) c.levels c.cell p (leaves (grid c) log) may uncrowded in
+        omega (arith, n, same_length _ _ same, length-map (filter (belongs (grid c) p) (live (updates_of log))) (placed_object (grid c)), ap (λ (xs : List Object). length (filter (belongs (grid c) p) xs)) (held_live (grid c) log))
 
     pub split_legal : LegalLog c (log ++ Split p ∷ [])
     split_legal =

@@ -7,24 +7,24 @@ use Rattle.mi_board.specs.Actors.{is_claim, is_claimed, claims_leaf_of}
 use Rattle.mi_board.specs.Boards.{BoardState, is_free}
 use Rattle.mi_tree.specs.declared.outcomes.Leaf.{Leaf}
 use Rattle.mi_tree.specs.Cells.{same_cell}
-use Rattle.mi_tree.specs.Counting.{beginning, has_leaf, is_wanted}
+use Rattle.mi_tree.specs.Counting.{leaves_beginning, has_leaf, is_wanted}
 use Rattle.mi_tree.proofs.LeafLemmas.{same_cell_is, same_self}
 
 -- the leaf that begins a permutation begins it
-pub kept_begins : (perm : List ℕ) (ls : List Leaf) (leaf : Leaf) → beginning perm ls ≡ leaf ∷ [] → begins leaf.prefix perm ≡ true
+pub kept_begins : (perm : List ℕ) (ls : List Leaf) (leaf : Leaf) → leaves_beginning perm ls ≡ leaf ∷ [] → begins leaf.prefix perm ≡ true
 kept_begins perm [] leaf h = cc
 kept_begins perm (l ∷ ls) leaf h =
-    let P : Bool → Type 0 = λ b. begins l.prefix perm ≡ b → cond b (l ∷ beginning perm ls) (beginning perm ls) ≡ leaf ∷ [] → begins leaf.prefix perm ≡ true in
+    let P : Bool → Type 0 = λ b. begins l.prefix perm ≡ b → cond b (l ∷ leaves_beginning perm ls) (leaves_beginning perm ls) ≡ leaf ∷ [] → begins leaf.prefix perm ≡ true in
     (elim (begins l.prefix perm) as P [
       | true ↦ λ e k. let same : l ≡ leaf = cc in subst (λ (x : Leaf). begins x.prefix perm ≡ true) same e
       | false ↦ λ e k. kept_begins perm ls leaf k
     ]) refl h
 
 -- and is one of the leaves
-pub kept_there : (perm : List ℕ) (ls : List Leaf) (leaf : Leaf) → beginning perm ls ≡ leaf ∷ [] → has_leaf leaf.prefix ls ≡ true
+pub kept_there : (perm : List ℕ) (ls : List Leaf) (leaf : Leaf) → leaves_beginning perm ls ≡ leaf ∷ [] → has_leaf leaf.prefix ls ≡ true
 kept_there perm [] leaf h = cc
 kept_there perm (l ∷ ls) leaf h =
-    let P : Bool → Type 0 = λ b. cond b (l ∷ beginning perm ls) (beginning perm ls) ≡ leaf ∷ [] → (same_cell leaf.prefix l.prefix || has_leaf leaf.prefix ls) ≡ true in
+    let P : Bool → Type 0 = λ b. cond b (l ∷ leaves_beginning perm ls) (leaves_beginning perm ls) ≡ leaf ∷ [] → (same_cell leaf.prefix l.prefix || has_leaf leaf.prefix ls) ≡ true in
     (elim (begins l.prefix perm) as P [
       | true ↦ λ k. let same : l ≡ leaf = cc in rw (subst (λ (x : Leaf). same_cell leaf.prefix x.prefix ≡ true) (sym same) (same_self leaf.prefix)) refl
       | false ↦ λ k. or_right (same_cell leaf.prefix l.prefix) (has_leaf leaf.prefix ls) (kept_there perm ls leaf k)

@@ -20,16 +20,16 @@ change f zero (a ∷ actors) = f a ∷ actors
 change f (suc actor) (a ∷ actors) = a ∷ change f actor actors
 
 -- the actor claims the leaf of this prefix
-abbrev pub claiming : List ℕ → ActorState → ActorState
-claiming p a = record { claim = Some p; reserved = a.reserved }
+abbrev pub with_claim : List ℕ → ActorState → ActorState
+with_claim p a = record { claim = Some p; reserved = a.reserved }
 
 -- the actor's claim has ended
-abbrev pub released : ActorState → ActorState
-released a = record { claim = None; reserved = a.reserved }
+abbrev pub without_claim : ActorState → ActorState
+without_claim a = record { claim = None; reserved = a.reserved }
 
 -- the actor has reserved an update, or has committed the one that it reserved
-abbrev pub reserving : Bool → ActorState → ActorState
-reserving reserved a = record { claim = a.claim; reserved = reserved }
+abbrev pub with_reserved : Bool → ActorState → ActorState
+with_reserved reserved a = record { claim = a.claim; reserved = reserved }
 
 -- a claim is that of the leaf of this prefix
 abbrev pub is_claim : List ℕ → Option (List ℕ) → Bool

@@ -11,7 +11,7 @@ use Rattle.mi_base.specs.History.{TheOne, end_of, is_live, live, updates_of}
 use Rattle.mi_base.specs.Permutations.{begins}
 use Rattle.mi_base.specs.Sorting.{SameElements}
 use Rattle.mi_board.specs.declared.actors.ActorState.{ActorState}
-use Rattle.mi_board.specs.Actors.{actor_at, change, claiming, released, reserving, is_claimed, claims_leaf_of}
+use Rattle.mi_board.specs.Actors.{actor_at, change, with_claim, without_claim, with_reserved, is_claimed, claims_leaf_of}
 use Rattle.mi_tree.specs.declared.answers.CommitRefusal.{CommitRefusal}
 use Rattle.mi_tree.specs.declared.answers.CommitRefusal.TheVariants as commit
 use Rattle.mi_tree.specs.declared.answers.LeafClaim.{LeafClaim}
@@ -24,7 +24,7 @@ use Rattle.mi_tree.specs.declared.answers.Work.TheVariants as work
 use Rattle.mi_tree.specs.declared.counts.Placed.{Placed}
 use Rattle.mi_tree.specs.declared.outcomes.Leaf.{Leaf}
 use Rattle.mi_tree.specs.Cells.{Grid, grid_of}
-use Rattle.mi_tree.specs.Counting.{belongs, beginning, is_crowded, is_wanted, placed}
+use Rattle.mi_tree.specs.Counting.{belongs, leaves_beginning, is_crowded, is_wanted, placed_object}
 use Rattle.mi_tree.specs.Legal.{MayFollow, cells_of}
 
 -- the settings of the index, its log, what each actor claims and has reserved, and the leaves that were split and not yet swept, oldest first
@@ -51,8 +51,8 @@ abbrev pub with_event : LogEvent → (ActorState → ActorState) → ℕ → Boa
 with_event e f actor b = record { settings = b.settings; log = b.log ++ e ∷ []; actors = change f actor b.actors; retired = b.retired }
 
 -- nothing is pinned yet, so the floor is the end of the log; and page 0 is the one page
-abbrev pub looked : BoardState → Look
-looked b = record { at = end_of b.log; root = 0; height = 0; floor = end_of b.log }
+abbrev pub look_of : BoardState → Look
+look_of b = record { at = end_of b.log; root = 0; height = 0; floor = end_of b.log }
 
 -- the log has as many updates as it may have
 abbrev pub IsFull : BoardState → ℕ → Type 0
@@ -63,14 +63,14 @@ HasRoom b = length (updates_of b.log) < b.settings.updates
 
 -- a reservation comes with the look of that moment, or is refused exactly at a full log
 abbrev pub Reserves : BoardState → ℕ → Result Look ReserveRefusal → BoardState → Type 0
-Reserves old actor (Ok look) new = HasRoom old × ((look ≡ looked old) × (new ≡ with_actor (reserving true) actor old))
+Reserves old actor (Ok look) new = HasRoom old × ((look ≡ look_of old) × (new ≡ with_actor (with_reserved true) actor old))
 Reserves old actor (Err (reserve.Full limit)) new = IsFull old limit × (new ≡ old)
 Reserves old actor (Err reserve.Memory) new = new ≡ old
 
 -- a claim is taken, or is another actor's
 abbrev pub ClaimsLeaf : BoardState → ℕ → List ℕ → LeafClaim → BoardState → Type 0
 ClaimsLeaf old actor perm (Taken leaf) new =
-    (beginning perm (cells_of old.settings old.log) ≡ leaf ∷ []) × ((is_claimed leaf.prefix old.actors ≡ false) × (new ≡ with_actor (claiming leaf.prefix) actor old))
+    (leaves_beginning perm (cells_of old.settings old.log) ≡ leaf ∷ []) × ((is_claimed leaf.prefix old.actors ≡ false) × (new ≡ with_actor (with_claim leaf.prefix) actor old))
 ClaimsLeaf old actor perm (Held by) new =
     (by < length old.actors) × (IsTrue (claims_leaf_of perm (actor_at old.actors by).claim) × (new ≡ old))
 
@@ -99,7 +99,7 @@ pub record MayDelete (b : BoardState) (id : ℕ) (perm : List ℕ) : Type 0 wher
 -- an update is entered under its number, or is refused: exactly at a full log, and else exactly for an insert into a crowded leaf
 abbrev pub Commits : BoardState → ℕ → ℕ → Update → Bool → Result ℕ CommitRefusal → BoardState → Type 0
 Commits old actor op u crowded (Ok number) new =
-    HasRoom old × ((crowded ≡ false) × ((number ≡ length (updates_of old.log) + 1) × (new ≡ with_event (Made actor op u) (reserving false) actor old)))
+    HasRoom old × ((crowded ≡ false) × ((number ≡ length (updates_of old.log) + 1) × (new ≡ with_event (Made actor op u) (with_reserved false) actor old)))
 Commits old actor op u crowded (Err (commit.Full limit)) new = IsFull old limit × (new ≡ old)
 Commits old actor op u crowded (Err commit.Crowded) new = HasRoom old × ((crowded ≡ true) × (new ≡ old))
 
@@ -116,11 +116,11 @@ pub record MayPublish (b : BoardState) (actor : ℕ) (objects : List Placed) (pr
   pub known : actor < length b.actors
   pub claims : (actor_at b.actors actor).claim ≡ Some prefix
   pub wanted : MayFollow b.settings b.log (Split prefix)
-  pub objects_are : SameElements objects (map (placed (grid_in b)) (filter (belongs (grid_in b) prefix) (live (updates_of b.log))))
+  pub objects_are : SameElements objects (map (placed_object (grid_in b)) (filter (belongs (grid_in b) prefix) (live (updates_of b.log))))
 
 -- the board after a split of the leaf that the actor claimed
 abbrev pub with_split : List ℕ → ℕ → BoardState → BoardState
-with_split prefix actor b = record { settings = b.settings; log = b.log ++ Split prefix ∷ []; actors = change released actor b.actors; retired = b.retired ++ prefix ∷ [] }
+with_split prefix actor b = record { settings = b.settings; log = b.log ++ Split prefix ∷ []; actors = change without_claim actor b.actors; retired = b.retired ++ prefix ∷ [] }
 
 -- a split is published, or memory was wanted
 abbrev pub Publishes : BoardState → ℕ → List ℕ → Result Position NoMemory → BoardState → Type 0
@@ -140,5 +140,5 @@ abbrev pub GivesWork : BoardState → ℕ → Work → BoardState → Type 0
 GivesWork old actor (work.Sweep prefix) new =
     (old.retired ≡ prefix ∷ new.retired) × (new ≡ record { settings = old.settings; log = old.log; actors = old.actors; retired = new.retired })
 GivesWork old actor (work.Split leaf) new =
-    (old.retired ≡ []) × ((first_wanted old ≡ Some leaf) × (new ≡ with_actor (claiming leaf.prefix) actor old))
+    (old.retired ≡ []) × ((first_wanted old ≡ Some leaf) × (new ≡ with_actor (with_claim leaf.prefix) actor old))
 GivesWork old actor work.Idle new = (old.retired ≡ []) × ((first_wanted old ≡ None) × (new ≡ old))

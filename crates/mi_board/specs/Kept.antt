@@ -6,7 +6,7 @@ use Rattle.mi_base.specs.History.{updates_of}
 use Rattle.mi_board.specs.declared.actors.ActorState.{ActorState}
 use Rattle.mi_board.specs.Actors.{is_claimed}
 use Rattle.mi_tree.specs.declared.outcomes.Leaf.{Leaf}
-use Rattle.mi_tree.specs.Catalogs.{Cells}
+use Rattle.mi_tree.specs.Catalog.{CatalogState}
 use Rattle.mi_tree.specs.Counting.{has_leaf}
 use Rattle.mi_tree.specs.Legal.{LegalLog, cells_of}
 
@@ -21,11 +21,11 @@ ClaimsStand leaves [] = Unit {0}
 ClaimsStand leaves (a ∷ actors) = ClaimStands leaves actors a.claim × ClaimsStand leaves actors
 
 -- the cells of a log under settings
-abbrev pub cells_in : Configuration → List LogEvent → Cells
+abbrev pub cells_in : Configuration → List LogEvent → CatalogState
 cells_in c log = record { pivots = length c.pivots; levels = c.levels; leaves = cells_of c log }
 
 -- the log is legal, the catalog has its cells, the count is that of its updates, the claims stand, and there is room for what was reserved
-pub record IsBoard (c : Configuration) (log : List LogEvent) (catalog : Cells) (updates : ℕ) (actors : List ActorState) (room : ℕ) : Type 0 where
+pub record IsBoard (c : Configuration) (log : List LogEvent) (catalog : CatalogState) (updates : ℕ) (actors : List ActorState) (room : ℕ) : Type 0 where
   pub limits : IsWithinLimits c
   pub legal : LegalLog c log
   pub cells : catalog ≡ cells_in c log

@@ -3,8 +3,8 @@ ghost use Rattle.std.specs.Prelude.{◌≡◌, ◌≢◌, ◌<◌, ◌≤◌, No
 ghost use Rattle.mi_base.specs.declared.records.Update.TheVariants.{Insert, Delete};
 ghost use Rattle.mi_base.specs.Configuration.{IsWithinLimits};
 ghost use Rattle.mi_base.specs.History.{end_of};
-ghost use Rattle.mi_board.specs.Actors.{actor_at, idle, is_claim, is_claimed, released};
-ghost use Rattle.mi_board.specs.Boards.{ClaimsLeaf, Commits, GivesWork, MayCommit, MayDelete, MayInsert, MayPublish, Publishes, Reserves, crowded_at, first_wanted, is_free, leaf_claimed, looked, opened_board, with_actor};
+ghost use Rattle.mi_board.specs.Actors.{actor_at, idle, is_claim, is_claimed, without_claim};
+ghost use Rattle.mi_board.specs.Boards.{ClaimsLeaf, Commits, GivesWork, MayCommit, MayDelete, MayInsert, MayPublish, Publishes, Reserves, crowded_at, first_wanted, is_free, leaf_claimed, look_of, opened_board, with_actor};
 ghost use Rattle.mi_board.specs.Kept.{cells_in};
 ghost use Rattle.mi_tree.specs.Counting.{is_crowded, is_wanted};
 ghost use Rattle.mi_tree.specs.Legal.{LegalLog};
@@ -114,7 +114,7 @@ impl Board {
 
     /// The end of the log, which is the floor too, and the root of the pages, which is 0 at height 0.
     pub fn look(&self) -> Look
-        ensures { result ≡ looked self.now }
+        ensures { result ≡ look_of self.now }
     {
         let at = self.end();
         Look {
@@ -161,7 +161,7 @@ impl Board {
     pub fn release_leaf(&mut self, actor: u32)
         requires known { actor < length self.old.actors }
         requires claims { (actor_at self.old.actors actor).claim ≢ None }
-        ensures { self.new ≡ with_actor released actor self.old }
+        ensures { self.new ≡ with_actor without_claim actor self.old }
     {
         self.actors[actor as usize].claim = None;
     }

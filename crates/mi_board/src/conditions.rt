@@ -7,7 +7,7 @@ ghost use Rattle.mi_base.specs.Permutations.{distances, key_distance, permutatio
 ghost use Rattle.mi_base.specs.Space.{l1_metric};
 ghost use Rattle.mi_base.specs.declared.records.LogEvent.TheVariants.{Split};
 ghost use Rattle.mi_board.specs.Boards.{MayCommit, grid_in};
-ghost use Rattle.mi_tree.specs.Counting.{belongs, placed};
+ghost use Rattle.mi_tree.specs.Counting.{belongs, placed_object};
 ghost use Rattle.mi_tree.specs.Legal.{MayFollow};
 
 use crate::Board;
@@ -67,7 +67,7 @@ pub fn placed_at(
     vector: &Vector,
 ) -> Result<Placed, NoMemory>
     ensures fits { OnOk result (IsTrue ((metric_space board.now.settings).fits vector.now)) }
-    ensures placed { IfOk result (λ place. place ≡ placed (grid_in board.now) (record { id = 0; vector = vector.now })) }
+    ensures placed_object { IfOk result (λ place. place ≡ placed_object (grid_in board.now) (record { id = 0; vector = vector.now })) }
 {
     let settings = board.settings();
     assert!(rt; settings.metric == MetricKind::L1);
@@ -108,7 +108,7 @@ fn members_of(
     objects: &[Live],
     prefix: &Prefix,
 ) -> Result<Vec<Placed>, NoMemory>
-    ensures { IfOk result (λ members. members.items ≡ map (placed (grid_in board.now)) (filter (belongs (grid_in board.now) prefix.now) (map (λ o. record { id = o.id; vector = o.vector }) objects.now))) }
+    ensures { IfOk result (λ members. members.items ≡ map (placed_object (grid_in board.now)) (filter (belongs (grid_in board.now) prefix.now) (map (λ o. record { id = o.id; vector = o.vector }) objects.now))) }
 {
     let mut members = Vec::new(alloc);
     for object in objects {

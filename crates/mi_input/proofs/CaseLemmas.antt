@@ -4,7 +4,7 @@ use Rattle.std.proofs.lemmas.Bool.{leb-true}
 use Rattle.mi_input.specs.declared.faults.Reason.{Reason}
 use Rattle.mi_input.specs.declared.faults.Reason.TheVariants.{Limit}
 use Rattle.mi_input.specs.declared.faults.InputFault.{InputFault}
-use Rattle.mi_input.specs.Faults.{Fault, Gives, ◌>>=◌, at_record}
+use Rattle.mi_input.specs.Faults.{Fault, ReadsAs, ◌>>=◌, at_record}
 use Rattle.mi_input.specs.Records.{limited}
 
 pub chosen : {X : Type 0} (b : Bool) (x y z : X) → cond b x y ≡ z → ((b ≡ true) × (x ≡ z)) ⊎ ((b ≡ false) × (y ≡ z))
@@ -29,6 +29,6 @@ at_record_ok number (Ok y) x h = let e : y ≡ x = cc in ap Ok e
 at_record_ok number (Err why) x h = cc
 
 -- what follows from what reading gives holds of what a function returned
-pub gives_law : {X Y : Type 0} (view : X → Y) (P : X → Type 0) (result : Result X InputFault) (read : Result Y Fault) → Gives view result read → ((x : X) → read ≡ Ok (view x) → P x) → IfOk result P
+pub gives_law : {X Y : Type 0} (view : X → Y) (P : X → Type 0) (result : Result X InputFault) (read : Result Y Fault) → ReadsAs view result read → ((x : X) → read ≡ Ok (view x) → P x) → IfOk result P
 gives_law view P (Ok x) read gives law = law x gives
 gives_law view P (Err e) read gives law = tt

@@ -4,7 +4,7 @@ use Rattle.std.proofs.lemmas.List.{append-nil, drop_all}
 use Rattle.csv.specs.Records.{field_at}
 use Rattle.mi_input.specs.declared.faults.Reason.{Reason}
 use Rattle.mi_input.specs.Faults.{◌>>=◌}
-use Rattle.mi_input.specs.Records.{begins_with, each, field_in}
+use Rattle.mi_input.specs.Records.{begins_with, read_each, field_in}
 
 -- what csv gives for a field that is there, and for one that isn't
 pub at_some : (fields : List (List ℕ)) (place : ℕ) (field : List ℕ) → Some field ≡ field_at fields place → field ≡ field_in place fields
@@ -42,15 +42,15 @@ front_done front = ap Ok (append-nil front)
 
 -- one more field was read
 pub each_more : {X : Type 0} (form : List ℕ → Result X Reason) (front : List X) (fields : List (List ℕ)) (place : ℕ) (x : X) → place < length fields
-    → form (field_in place fields) ≡ Ok x → with_front front (each form (drop place fields)) ≡ with_front (front ++ x ∷ []) (each form (drop (place + 1) fields))
-each_more form front fields place x lt h = rw (add-one place, drop-cons fields place [], h) (front_more front x (each form (drop (suc place) fields)))
+    → form (field_in place fields) ≡ Ok x → with_front front (read_each form (drop place fields)) ≡ with_front (front ++ x ∷ []) (read_each form (drop (place + 1) fields))
+each_more form front fields place x lt h = rw (add-one place, drop-cons fields place [], h) (front_more front x (read_each form (drop (suc place) fields)))
 
 -- a field was refused
 pub each_stops : {X : Type 0} (form : List ℕ → Result X Reason) (front : List X) (fields : List (List ℕ)) (place : ℕ) (why : Reason) → place < length fields
-    → form (field_in place fields) ≡ Err why → with_front front (each form (drop place fields)) ≡ Err why
+    → form (field_in place fields) ≡ Err why → with_front front (read_each form (drop place fields)) ≡ Err why
 each_stops form front fields place why lt h = rw (drop-cons fields place [], h) refl
 
 -- no field is left
 pub each_done : {X : Type 0} (form : List ℕ → Result X Reason) (front : List X) (fields : List (List ℕ)) (place : ℕ) → length fields ≤ place
-    → with_front front (each form (drop place fields)) ≡ Ok front
+    → with_front front (read_each form (drop place fields)) ≡ Ok front
 each_done form front fields place le = rw (drop_all place fields le) (front_done front)

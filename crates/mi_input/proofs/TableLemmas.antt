@@ -7,7 +7,7 @@ use Rattle.mi_input.specs.declared.faults.InputFault.{InputFault}
 use Rattle.mi_input.specs.declared.faults.InputFault.TheVariants.{Bad, Memory}
 use Rattle.mi_input.specs.Faults.{IsFaultOf}
 use Rattle.mi_input.specs.Numbers.{count_in}
-use Rattle.mi_input.specs.Records.{Place, each, reading, run_of}
+use Rattle.mi_input.specs.Records.{Place, read_each, reading, run_of}
 use Rattle.mi_input.specs.Settings.{row_in, table_in, values_in}
 use Rattle.mi_input.proofs.RunLemmas.{run_ahead}
 
@@ -21,7 +21,7 @@ long_tests : (n : ℕ) → 129 < n → (nat_le 1 (n - 1) && nat_le (n - 1) 128) 
 long_tests n long = grind (arith, nat_tests)
 
 -- the values of a record with a right number of fields
-pub values_each : (fields : List (List ℕ)) → 2 ≤ length fields → length fields ≤ 129 → values_in (drop 1 fields) ≡ each (count_in 0 128000000) (drop 1 fields)
+pub values_each : (fields : List (List ℕ)) → 2 ≤ length fields → length fields ≤ 129 → values_in (drop 1 fields) ≡ read_each (count_in 0 128000000) (drop 1 fields)
 unfolding values_in
 values_each fields some few = rw (length-drop 1 fields, few_tests (length fields) some few) refl
 

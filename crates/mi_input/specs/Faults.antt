@@ -15,9 +15,9 @@ IsFaultOf read (Bad number why) = read ≡ Err (record { number = number; why = 
 IsFaultOf read Memory = Unit {0}
 
 -- what a function returned, seen by view, is what reading gives, unless memory ran out
-abbrev pub Gives : {X Y : Type 0} → (X → Y) → Result X InputFault → Result Y Fault → Type 0
-Gives view (Ok x) read = read ≡ Ok (view x)
-Gives view (Err e) read = IsFaultOf read e
+abbrev pub ReadsAs : {X Y : Type 0} → (X → Y) → Result X InputFault → Result Y Fault → Type 0
+ReadsAs view (Ok x) read = read ≡ Ok (view x)
+ReadsAs view (Err e) read = IsFaultOf read e
 
 -- what was read goes on to the next step, and the first refusal stands
 infixl 10 ◌>>=◌

@@ -78,11 +78,11 @@ run_of word form before number (fields ∷ rest) =
     else Ok ([], record { number = number; records = fields ∷ rest })
 
 -- each field, read by its form
-abbrev pub each : {X : Type 0} → (List ℕ → Result X Reason) → List (List ℕ) → Result (List X) Reason
-each form [] = Ok []
-each form (field ∷ fields) = do
+abbrev pub read_each : {X : Type 0} → (List ℕ → Result X Reason) → List (List ℕ) → Result (List X) Reason
+read_each form [] = Ok []
+read_each form (field ∷ fields) = do
   x ← form field
-  xs ← each form fields
+  xs ← read_each form fields
   Ok (x ∷ xs)
 
 -- the records from a state of csv's machine on, over the bytes that it still has

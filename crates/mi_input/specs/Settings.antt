@@ -12,7 +12,7 @@ use Rattle.mi_input.specs.declared.settings.Sizes.{Sizes}
 use Rattle.mi_input.specs.declared.vectors.Shape.{Shape}
 use Rattle.mi_input.specs.Faults.{Fault, ◌>>=◌}
 use Rattle.mi_input.specs.Numbers.{count_in}
-use Rattle.mi_input.specs.Records.{Place, begins_with, each, ending, field_in, limited, reading, run_of, start}
+use Rattle.mi_input.specs.Records.{Place, begins_with, read_each, ending, field_in, limited, reading, run_of, start}
 use Rattle.mi_input.specs.Vectors.{shape_under, vector_in}
 
 -- the metric of this name
@@ -50,7 +50,7 @@ most_dims Hamming = 64
 -- 1 to 128 values
 unfoldable pub values_in : List (List ℕ) → Result (List ℕ) Reason
 values_in fields =
-    if nat_le 1 (length fields) && nat_le (length fields) 128 then each (count_in 0 128000000) fields
+    if nat_le 1 (length fields) && nat_le (length fields) 128 then read_each (count_in 0 128000000) fields
     else Err Fields
 
 -- row,VALUES: the table's row of this number, from 1

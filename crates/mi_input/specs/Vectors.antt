@@ -6,7 +6,7 @@ use Rattle.mi_base.specs.Configuration.{Configuration}
 use Rattle.mi_input.specs.declared.faults.Reason.{Reason}
 use Rattle.mi_input.specs.declared.vectors.Shape.{Shape}
 use Rattle.mi_input.specs.Numbers.{whole_in}
-use Rattle.mi_input.specs.Records.{each}
+use Rattle.mi_input.specs.Records.{read_each}
 
 -- the least coordinate
 abbrev pub lowest : MetricKind → ℤ
@@ -31,7 +31,7 @@ shape_of c = shape_under c.metric c.dims c.rows
 
 -- the coordinates in these fields
 abbrev pub vector_in : Shape → List (List ℕ) → Result (List ℤ) Reason
-vector_in shape fields = each (whole_in shape.lowest shape.highest) fields
+vector_in shape fields = read_each (whole_in shape.lowest shape.highest) fields
 
 -- a vector of this shape is one
 pub record IsShape (shape : Shape) : Type 0 where

@@ -1,7 +1,7 @@
 //! Why a file was refused.
 ghost use Rattle.std.specs.Prelude.{◌≡◌};
 ghost use Rattle.mi_input.specs.declared.faults.InputFault.TheVariants.{Memory};
-ghost use Rattle.mi_input.specs.Faults.{Gives, at_record};
+ghost use Rattle.mi_input.specs.Faults.{ReadsAs, at_record};
 
 use mi_base::NoMemory;
 use thiserror::Error;
@@ -48,7 +48,7 @@ impl From<NoMemory> for InputFault {
 
 /// What was read of the record of this number, or its fault.
 pub(crate) fn in_record<T: Drop>(number: u32, read: Result<T, Reason>) -> Result<T, InputFault>
-    ensures { Gives (λ x. x) result (at_record number read) }
+    ensures { ReadsAs (λ x. x) result (at_record number read) }
 {
     match read {
         Ok(value) => Ok(value),

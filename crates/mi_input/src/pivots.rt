@@ -1,7 +1,7 @@
 //! The pivots of a settings file.
 ghost use Rattle.std.specs.Prelude.{◌≡◌, ◌+◌, ◌<◌, IfOk, OnOk};
 ghost use Rattle.csv.specs.Records.{fields_of};
-ghost use Rattle.mi_input.specs.Faults.{Gives};
+ghost use Rattle.mi_input.specs.Faults.{ReadsAs};
 ghost use Rattle.mi_input.specs.Records.{reading};
 ghost use Rattle.mi_input.specs.Settings.{ArePivots, IsMeasure, pivot_in, pivots_in};
 ghost use Rattle.mi_input.specs.Vectors.{IsShape, shape_under};
@@ -37,7 +37,7 @@ fn pivot_of(shape: &Shape, before: usize, fields: &ByteRecord) -> Result<Vector,
 fn next_pivot(records: &mut Records, shape: &Shape, before: usize) -> Result<Vector, InputFault>
     requires number { records.old.number < 1000 }
     requires shape { IsShape shape.now }
-    ensures gives { Gives (λ pivot. (pivot, records.new)) result (reading (pivot_in shape.now (before + 1)) records.old) }
+    ensures gives { ReadsAs (λ pivot. (pivot, records.new)) result (reading (pivot_in shape.now (before + 1)) records.old) }
     ensures few { OnOk result (before < 32) }
     ensures number { OnOk result (records.new.number ≡ records.old.number + 1) }
 {
@@ -51,7 +51,7 @@ fn next_pivot(records: &mut Records, shape: &Shape, before: usize) -> Result<Vec
 fn pivots_of(alloc: Global, records: &mut Records, shape: &Shape) -> Result<VectorList, InputFault>
     requires number { records.old.number < 300 }
     requires shape { IsShape shape.now }
-    ensures gives { Gives (λ pivots. (pivots, records.new)) result (pivots_in shape.now records.old) }
+    ensures gives { ReadsAs (λ pivots. (pivots, records.new)) result (pivots_in shape.now records.old) }
     ensures number { OnOk result (records.new.number < 400) }
 {
     let mut pivots = VectorList::new(alloc);
@@ -70,7 +70,7 @@ pub(crate) fn pivots(
 ) -> Result<VectorList, InputFault>
     requires number { records.old.number < 300 }
     requires measure { IsMeasure measure.now }
-    ensures gives { Gives (λ pivots. (pivots, records.new)) result (pivots_in (shape_under measure.now.metric measure.now.dims measure.now.rows) records.old) }
+    ensures gives { ReadsAs (λ pivots. (pivots, records.new)) result (pivots_in (shape_under measure.now.metric measure.now.dims measure.now.rows) records.old) }
     ensures pivots { IfOk result (ArePivots measure.now) }
     ensures number { OnOk result (records.new.number < 400) }
 {

@@ -3,7 +3,7 @@ ghost use Rattle.std.specs.Prelude.{◌≡◌, ◌+◌, ◌<◌, ◌^◌, ◌∷
 ghost use Rattle.csv.specs.Records.{fields_of};
 ghost use Rattle.csv.specs.Reading.{Ready, took_first};
 ghost use Rattle.mi_input.specs.Records.{IsBetweenRecords, after, first_of, next_begins, records_at, records_of, start};
-ghost use Rattle.mi_input.specs.Faults.{Gives};
+ghost use Rattle.mi_input.specs.Faults.{ReadsAs};
 ghost use Rattle.mi_input.specs.declared.faults.InputFault.TheVariants.{Bad, Memory};
 
 use crate::faults::{InputFault, Reason};
@@ -87,7 +87,7 @@ impl<'a> Records<'a> {
 
     /// The record at this place, where one must follow.
     pub(crate) fn expect(&self) -> Result<&ByteRecord, InputFault>
-        ensures { Gives (λ fields. fields_of fields.now) result (first_of self.now.number self.now.records) }
+        ensures { ReadsAs (λ fields. fields_of fields.now) result (first_of self.now.number self.now.records) }
     {
         self.current().ok_or(self.fault(Reason::End))
     }

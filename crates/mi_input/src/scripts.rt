@@ -2,7 +2,7 @@
 ghost use Rattle.std.specs.Prelude.{◌≡◌, Ok, IfOk, IfErr};
 ghost use Rattle.csv.specs.Records.{fields_of};
 ghost use Rattle.mi_base.specs.Configuration.{metric_space};
-ghost use Rattle.mi_input.specs.Faults.{Gives, IsFaultOf};
+ghost use Rattle.mi_input.specs.Faults.{ReadsAs, IsFaultOf};
 ghost use Rattle.mi_base.specs.Scripts.{IsScriptOver};
 ghost use Rattle.mi_input.specs.Scripts.{delete_in, id_in, insert_in, nearest_in, op_in, range_in, script_from, script_in};
 ghost use Rattle.mi_input.specs.Vectors.{IsShape};
@@ -114,7 +114,7 @@ fn op_of(shape: &Shape, number: u32, fields: &ByteRecord) -> Result<Op, Reason>
 
 fn script_of(alloc: Global, bytes: &[u8], shape: &Shape) -> Result<Script, InputFault>
     requires { IsShape shape.now }
-    ensures { Gives (λ script. script) result (script_from shape.now 1 (records_in bytes.now)) }
+    ensures { ReadsAs (λ script. script) result (script_from shape.now 1 (records_in bytes.now)) }
 {
     let mut records = Records::new(alloc, bytes)?;
     let mut script = Script::new(alloc);

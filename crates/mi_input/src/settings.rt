@@ -2,7 +2,7 @@
 ghost use Rattle.std.specs.Prelude.{◌≡◌, ◌+◌, ◌<◌, ◌≤◌, Ok, IfOk, IfErr, OnOk};
 ghost use Rattle.csv.specs.Records.{fields_of};
 ghost use Rattle.mi_base.specs.Configuration.{IsDepth};
-ghost use Rattle.mi_input.specs.Faults.{Gives, IsFaultOf};
+ghost use Rattle.mi_input.specs.Faults.{ReadsAs, IsFaultOf};
 ghost use Rattle.mi_input.specs.Records.{reading};
 ghost use Rattle.mi_input.specs.Settings.{AreItsRows, AreSizes, IsMeasure, kind_in, levels_in, measure_in, metric_in, most_dims, rows_in, setting_in, settings_in, sizes_in};
 
@@ -94,7 +94,7 @@ fn setting_of(fields: &ByteRecord, word: &[u8], least: u32, most: u32) -> Result
 // The next record as a metric.
 fn metric(records: &mut Records) -> Result<MetricKind, InputFault>
     requires { records.old.number < 1000 }
-    ensures gives { Gives (λ kind. (kind, records.new)) result (reading metric_in records.old) }
+    ensures gives { ReadsAs (λ kind. (kind, records.new)) result (reading metric_in records.old) }
     ensures number { OnOk result (records.new.number ≡ records.old.number + 1) }
 {
     let fields = records.expect()?;
@@ -106,7 +106,7 @@ fn metric(records: &mut Records) -> Result<MetricKind, InputFault>
 // The next record as this word with a number.
 fn setting(records: &mut Records, word: &[u8], least: u32, most: u32) -> Result<u32, InputFault>
     requires { records.old.number < 1000 }
-    ensures gives { Gives (λ number. (number, records.new)) result (reading (setting_in word.now least most) records.old) }
+    ensures gives { ReadsAs (λ number. (number, records.new)) result (reading (setting_in word.now least most) records.old) }
     ensures bounds { IfOk result (λ number. (least ≤ number) × (number ≤ most)) }
     ensures number { OnOk result (records.new.number ≡ records.old.number + 1) }
 {
@@ -119,7 +119,7 @@ fn setting(records: &mut Records, word: &[u8], least: u32, most: u32) -> Result<
 // The next record as the number of levels, where there are so many pivots.
 fn levels(records: &mut Records, pivots: u32) -> Result<u32, InputFault>
     requires { records.old.number < 1000 }
-    ensures gives { Gives (λ number. (number, records.new)) result (reading (levels_in pivots) records.old) }
+    ensures gives { ReadsAs (λ number. (number, records.new)) result (reading (levels_in pivots) records.old) }
     ensures depth { IfOk result (IsDepth pivots) }
     ensures number { OnOk result (records.new.number ≡ records.old.number + 1) }
 {
@@ -128,7 +128,7 @@ fn levels(records: &mut Records, pivots: u32) -> Result<u32, InputFault>
 
 fn rows(alloc: Global, records: &mut Records, metric: MetricKind) -> Result<TableRows, InputFault>
     requires { records.old.number < 100 }
-    ensures gives { Gives (λ rows. (rows, records.new)) result (rows_in metric records.old) }
+    ensures gives { ReadsAs (λ rows. (rows, records.new)) result (rows_in metric records.old) }
     ensures rows { IfOk result (AreItsRows metric) }
     ensures number { OnOk result (records.new.number < 300) }
 {
@@ -151,7 +151,7 @@ fn greatest_dims(metric: MetricKind) -> u32
 #[tactic(auto, unfolding(crate::specs::Settings::measure_in))]
 fn read_measure(alloc: Global, records: &mut Records) -> Result<Measure, InputFault>
     requires { records.old.number < 10 }
-    ensures gives { Gives (λ measure. (measure, records.new)) result (measure_in records.old) }
+    ensures gives { ReadsAs (λ measure. (measure, records.new)) result (measure_in records.old) }
     ensures measure { IfOk result IsMeasure }
     ensures number { OnOk result (records.new.number < 300) }
 {
@@ -164,7 +164,7 @@ fn read_measure(alloc: Global, records: &mut Records) -> Result<Measure, InputFa
 #[tactic(auto, unfolding(crate::specs::Settings::sizes_in))]
 fn read_sizes(records: &mut Records, pivots: u32) -> Result<Sizes, InputFault>
     requires { records.old.number < 400 }
-    ensures gives { Gives (λ sizes. (sizes, records.new)) result (sizes_in pivots records.old) }
+    ensures gives { ReadsAs (λ sizes. (sizes, records.new)) result (sizes_in pivots records.old) }
     ensures sizes { IfOk result (AreSizes pivots) }
 {
     let levels = levels(records, pivots)?;

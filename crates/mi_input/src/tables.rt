@@ -2,7 +2,7 @@
 ghost use Rattle.std.specs.Prelude.{◌≡◌, ◌+◌, ◌<◌, drop, IfOk, OnOk};
 ghost use Rattle.csv.specs.Records.{fields_of};
 ghost use Rattle.mi_base.specs.Configuration.{IsTable, IsTableRow};
-ghost use Rattle.mi_input.specs.Faults.{Gives, at_record};
+ghost use Rattle.mi_input.specs.Faults.{ReadsAs, at_record};
 ghost use Rattle.mi_input.specs.Records.{reading};
 ghost use Rattle.mi_input.specs.Settings.{row_in, table_in, values_in};
 
@@ -21,7 +21,7 @@ const MAX_VALUE: u64 = 128_000_000;
 
 // The values of the record of this number, which begins with its word.
 fn values_of(alloc: Global, number: u32, fields: &ByteRecord) -> Result<TableRow, InputFault>
-    ensures gives { Gives (λ row. row) result (at_record number (values_in (drop 1 (fields_of fields.now)))) }
+    ensures gives { ReadsAs (λ row. row) result (at_record number (values_in (drop 1 (fields_of fields.now)))) }
     ensures row { IfOk result IsTableRow }
 {
     if fields.len() < 2 || fields.len() > MAX_ROWS + 1 {
@@ -44,7 +44,7 @@ fn values_of(alloc: Global, number: u32, fields: &ByteRecord) -> Result<TableRow
 #[tactic(auto, unfolding(crate::specs::Settings::row_in))]
 fn next_row(alloc: Global, records: &mut Records, before: usize) -> Result<TableRow, InputFault>
     requires { records.old.number < 1000 }
-    ensures gives { Gives (λ row. (row, records.new)) result (reading (row_in (before + 1)) records.old) }
+    ensures gives { ReadsAs (λ row. (row, records.new)) result (reading (row_in (before + 1)) records.old) }
     ensures row { IfOk result IsTableRow }
     ensures few { OnOk result (before < 128) }
     ensures number { OnOk result (records.new.number ≡ records.old.number + 1) }
@@ -64,7 +64,7 @@ fn next_row(alloc: Global, records: &mut Records, before: usize) -> Result<Table
 /// The rows from here on, one at least.
 pub(crate) fn table(alloc: Global, records: &mut Records) -> Result<TableRows, InputFault>
     requires { records.old.number < 100 }
-    ensures gives { Gives (λ rows. (rows, records.new)) result (table_in records.old) }
+    ensures gives { ReadsAs (λ rows. (rows, records.new)) result (table_in records.old) }
     ensures table { IfOk result IsTable }
     ensures number { OnOk result (records.new.number < 300) }
 {

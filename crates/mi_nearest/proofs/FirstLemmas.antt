@@ -20,7 +20,7 @@ use Rattle.mi_key.specs.Entries.{Offering}
 use Rattle.mi_rules.specs.Answers.{Measured}
 use Rattle.mi_rules.proofs.RuleLemmas.{not_less, refused_far}
 use Rattle.mi_tree.specs.Passing.{kth_distance, last_distance}
-use Rattle.mi_nearest.specs.Nearing.{Nearing, Takes, first_rows, may_be_near, worst_of}
+use Rattle.mi_nearest.specs.Nearing.{Nearing, TakesNearest, first_rows, may_be_near, worst_of}
 
 take_take : {X : Type 0} (k : ℕ) (xs : List X) → take k (take (suc k) xs) ≡ take k xs
 take_take zero xs = refl
@@ -109,11 +109,11 @@ pub first_of_same : (count : ℕ) (xs ys : List Row) → SameElements xs ys → 
 first_of_same count xs ys same = ap (take count) (sorted_of_same row_cmp row_total row_exact xs ys same)
 
 -- nothing was offered
-pub takes_none : (m : MetricSpace) (query : List ℤ) (w : Nearing) (steps : ℕ) → Takes m query w steps [] w steps
+pub takes_none : (m : MetricSpace) (query : List ℤ) (w : Nearing) (steps : ℕ) → TakesNearest m query w steps [] w steps
 takes_none m query w steps = record { same_dists = refl; same_count = refl; rows_are = λ before e. e ∙ ap (first_rows w.count) (sym (append-nil before)); ticks = omega arith }
 
 -- more was offered
-pub takes_more : (m : MetricSpace) (query : List ℤ) (u v w : Nearing) (k l n : ℕ) (xs ys : List Offering) → Takes m query u k xs v l → Takes m query v l ys w n → Takes m query u k (xs ++ ys) w n
+pub takes_more : (m : MetricSpace) (query : List ℤ) (u v w : Nearing) (k l n : ℕ) (xs ys : List Offering) → TakesNearest m query u k xs v l → TakesNearest m query v l ys w n → TakesNearest m query u k (xs ++ ys) w n
 takes_more m query u v w k l n xs ys a b =
     let row : Offering → Row = λ o. row_of m query o.object in
     record {
@@ -128,7 +128,7 @@ takes_more m query u v w k l n xs ys a b =
 
 -- an entry that the filter refuses is no row
 pub take_refused : (m : MetricSpace) → IsMetric m → (query : List ℤ) → IsTrue (m.fits query) → (w : Nearing) (steps : ℕ) (o : Offering) → IsTrue (m.fits o.object.vector)
-    → Measured m query w.dists o.object.vector o.dists → may_be_near (worst_of w) w.dists o.dists ≡ false → Takes m query w steps (o ∷ []) w steps
+    → Measured m query w.dists o.object.vector o.dists → may_be_near (worst_of w) w.dists o.dists ≡ false → TakesNearest m query w steps (o ∷ []) w steps
 take_refused m is query fq w steps o fo me f =
     let row = row_of m query o.object in
     let Q : Option ℕ → Type 0 = λ worst. may_be_near worst w.dists o.dists ≡ false → (v : ℕ) × (worst ≡ Some v) × (v < m.d query o.object.vector) in
@@ -146,7 +146,7 @@ take_refused m is query fq w steps o fo me f =
 
 -- an entry that is compared is a row
 pub take_kept : (m : MetricSpace) (query : List ℤ) (w v : Nearing) (steps new_steps : ℕ) (o : Offering) (row : Row) → row ≡ row_of m query o.object → v.dists ≡ w.dists → v.count ≡ w.count
-    → v.rows ≡ take w.count (put row_cmp row w.rows) → new_steps ≡ steps + 1 → Takes m query w steps (o ∷ []) v new_steps
+    → v.rows ≡ take w.count (put row_cmp row w.rows) → new_steps ≡ steps + 1 → TakesNearest m query w steps (o ∷ []) v new_steps
 take_kept m query w v steps new_steps o row is d c r t = record {
   same_dists = d;
   same_count = c;

@@ -12,9 +12,9 @@ use Rattle.mi_base.specs.Space.{Space}
 use Rattle.mi_key.specs.Clusters.{cluster_of}
 use Rattle.mi_key.proofs.ClusterLemmas.{cluster-cmp}
 use Rattle.mi_tree.specs.declared.outcomes.Leaf.{Leaf}
-use Rattle.mi_tree.specs.Catalogs.{prefixes}
+use Rattle.mi_tree.specs.Catalog.{prefixes_of}
 use Rattle.mi_tree.specs.Cells.{AllMaySplit, grid_of, leaves}
-use Rattle.mi_tree.specs.Counting.{cat, held, leaf_with}
+use Rattle.mi_tree.specs.Counting.{catalog_after, population, leaf_with}
 use Rattle.mi_tree.proofs.FitLemmas.{Fits, leaves_fit}
 use Rattle.mi_tree.proofs.GridLemmas.{space_is_grid}
 use Rattle.mi_tree.proofs.ListLemmas.{all_map, map_twice}
@@ -34,11 +34,11 @@ numbers_ascend n levels (p ∷ ps) fits sorted = (numbers_after n levels p fits.
 
 -- so do those of the leaves after a log
 pub cells_ascend : (space : Space) (levels : ℕ) → length space.pivots ≤ 32 → IsDepth (length space.pivots) levels → (log : List LogEvent) → AllMaySplit (grid_of space levels) log
-    → IsStrictlySortedBy nat_cmp (map (λ leaf. cluster_of (length space.pivots) levels leaf.prefix) (cat (grid_of space levels) log))
+    → IsStrictlySortedBy nat_cmp (map (λ leaf. cluster_of (length space.pivots) levels leaf.prefix) (catalog_after (grid_of space levels) log))
 cells_ascend space levels few deep log may =
     let g = grid_of space levels in
     let n = length space.pivots in
-    let ls = cat g log in
+    let ls = catalog_after g log in
     let fit = recursion_from_All (Fits n levels) (leaves g log) (leaves_fit g (space_is_grid space levels few deep) log may) in
-    let fits : AllByRecursion (Fits n levels) (prefixes ls) = all_map (λ (l : Leaf). l.prefix) (Fits n levels) ls (all_map (leaf_with g (held g log)) (λ (l : Leaf). Fits n levels l.prefix) (leaves g log) fit) in
-    subst (IsStrictlySortedBy nat_cmp) (map_twice (cluster_of n levels) (λ (l : Leaf). l.prefix) ls) (numbers_ascend n levels (prefixes ls) fits (cat_in_order g log))
+    let fits : AllByRecursion (Fits n levels) (prefixes_of ls) = all_map (λ (l : Leaf). l.prefix) (Fits n levels) ls (all_map (leaf_with g (population g log)) (λ (l : Leaf). Fits n levels l.prefix) (leaves g log) fit) in
+    subst (IsStrictlySortedBy nat_cmp) (map_twice (cluster_of n levels) (λ (l : Leaf). l.prefix) ls) (numbers_ascend n levels (prefixes_of ls) fits (cat_in_order g log))

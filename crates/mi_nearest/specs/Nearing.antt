@@ -34,7 +34,7 @@ may_be_near (Some worst) dq dists = lets_through worst dq dists
 
 -- These were offered in this order, each at the cost of one step at most: if the rows were the first ones of some, they are the first
 -- ones of those and the rows of what was offered.
-pub record Takes (m : MetricSpace) (query : List ℤ) (old : Nearing) (steps : ℕ) (offered : List Offering) (new : Nearing) (new_steps : ℕ) : Type 0 where
+pub record TakesNearest (m : MetricSpace) (query : List ℤ) (old : Nearing) (steps : ℕ) (offered : List Offering) (new : Nearing) (new_steps : ℕ) : Type 0 where
   pub same_dists : new.dists ≡ old.dists
   pub same_count : new.count ≡ old.count
   pub rows_are : (before : List Row) → old.rows ≡ first_rows old.count before → new.rows ≡ first_rows old.count (before ++ map (λ o. row_of m query o.object) offered)

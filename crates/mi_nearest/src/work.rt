@@ -5,7 +5,7 @@ ghost use Rattle.mi_base.specs.History.{row_cmp};
 ghost use Rattle.mi_base.specs.Sorting.{put};
 ghost use Rattle.mi_key.specs.Entries.{offering_of};
 ghost use Rattle.mi_rules.specs.Answers.{Measured};
-ghost use Rattle.mi_nearest.specs.Nearing.{Takes, may_be_near, stops_at, worst_of};
+ghost use Rattle.mi_nearest.specs.Nearing.{TakesNearest, may_be_near, stops_at, worst_of};
 
 use mi_base::{Dists, NoMemory, Position, Reply, Row, Rows, Steps, Vector};
 use mi_key::Entry;
@@ -78,7 +78,7 @@ impl NearestWork {
         requires query { IsTrue ((M.space metric.now).fits query.now) }
         requires object { IsTrue ((M.space metric.now).fits entry.now.vector) }
         requires measured { Measured (M.space metric.now) query.now self.old.dists entry.now.vector entry.now.dists.items }
-        ensures taken { Takes (M.space metric.now) query.now self.old steps.old (offering_of entry.now ∷ []) self.new steps.new }
+        ensures taken { TakesNearest (M.space metric.now) query.now self.old steps.old (offering_of entry.now ∷ []) self.new steps.new }
         ensures steps { steps.new ≡ steps.old + cond (may_be_near (worst_of self.old) self.old.dists entry.now.dists.items) 1 0 }
         ensures spare { self.old.spare ≤ self.new.spare + 1 }
     {

@@ -9,8 +9,8 @@ abbrev pub Rose : ℕ → ℕ → Type 0
 Rose before now = min (before + 1) (2 ^ 64 - 1) ≤ now
 
 -- a count raised by one; at the end of its type it stands still
-abbrev pub raised : ℕ → ℕ
-raised count = min (count + 1) (2 ^ 64 - 1)
+abbrev pub raised_count : ℕ → ℕ
+raised_count count = min (count + 1) (2 ^ 64 - 1)
 
 -- a read gained what the file holds, where that is told, and never more than a file may hold
 pub record Reads (told : Option (List ℕ)) (before after : List ℕ) : Type 0 where

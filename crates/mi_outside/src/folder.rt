@@ -1,7 +1,7 @@
 //! Contents by name, kept in memory.
 ghost use Rattle.std.specs.Prelude.{◌≡◌, [], None, Some, OnOk, OnErr, IfErr, IfNone, IfSome};
 ghost use Rattle.std.specs.Option.{option_copied};
-ghost use Rattle.mi_outside.specs.Contents.{Gives, IsPlace, held};
+ghost use Rattle.mi_outside.specs.Contents.{SetsContent, IsPlace, content_of};
 ghost use Rattle.mi_outside.specs.Outside.{Reads, RefusesRead};
 
 use crate::{MAX_FILE, ReadRefusal};
@@ -42,7 +42,7 @@ impl Folder {
 
     /// The content of the file of this name, in bytes.
     pub fn get(&self, name: &str) -> Option<&[u8]>
-        ensures { option_copied result ≡ held self.now name.now }
+        ensures { option_copied result ≡ content_of self.now name.now }
     {
         let place = self.place(name)?;
         Some(self.files[place].content.as_slice())
@@ -50,7 +50,7 @@ impl Folder {
 
     /// Gives the name this content.
     pub fn put(&mut self, alloc: Global, name: &str, content: &[u8]) -> Result<(), NoMemory>
-        ensures ok { OnOk result (Gives self.old self.new name.now content.now) }
+        ensures ok { OnOk result (SetsContent self.old self.new name.now content.now) }
         ensures err { OnErr result (self.new ≡ self.old) }
     {
         let name_owned = String::from_str(alloc, name)?;
@@ -67,7 +67,7 @@ impl Folder {
     }
 
     fn place(&self, name: &str) -> Option<usize>
-        ensures none { IfNone result (held self.now name.now ≡ None) }
+        ensures none { IfNone result (content_of self.now name.now ≡ None) }
         ensures some { IfSome result (IsPlace self.now name.now) }
     {
         for (place, file) in self.files.iter().enumerate() {

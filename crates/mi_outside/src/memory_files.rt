@@ -1,6 +1,6 @@
 //! Files in memory, some of whose reads fail.
 ghost use Rattle.std.specs.Prelude.{◌≡◌, ◌≤◌, ◌↔◌, ℕ, List, [], IsTrue, IfOk, IfErr, OnOk, OnErr};
-ghost use Rattle.mi_outside.specs.Contents.{Gives, held};
+ghost use Rattle.mi_outside.specs.Contents.{SetsContent, content_of};
 ghost use Rattle.mi_outside.specs.Kept.{KeptFiles, after_read, read_fails};
 ghost use Rattle.mi_outside.specs.Outside.{Reads, RefusesRead};
 
@@ -42,7 +42,7 @@ impl MemoryFiles {
 
     /// Gives the name this content, in place of an earlier one.
     pub fn add(&mut self, alloc: Global, name: &str, content: &[u8]) -> Result<(), NoMemory>
-        ensures ok { OnOk result (Gives self.old.files self.new.files name.now content.now) }
+        ensures ok { OnOk result (SetsContent self.old.files self.new.files name.now content.now) }
         ensures rest { self.new ≡ record self.old { files = self.new.files } }
         ensures err { OnErr result (self.new ≡ self.old) }
     {
@@ -51,14 +51,14 @@ impl MemoryFiles {
 }
 
 impl Files for MemoryFiles {
-    ghost content = { λ m n. held m.files n };
+    ghost content = { λ m n. content_of m.files n };
 
     ghost faults = { λ m. m.faults };
 
     fn read(&mut self, name: &str, into: &mut Vec<u8>) -> Result<(), ReadRefusal>
-        ensures ok { OnOk result (Reads (held self.old.files name.now) into.old.items into.new.items) }
-        ensures err { IfErr result (RefusesRead (held self.old.files name.now) self.old.faults self.new.faults) }
-        ensures contents { (n : List ℕ) → held self.new.files n ≡ held self.old.files n }
+        ensures ok { OnOk result (Reads (content_of self.old.files name.now) into.old.items into.new.items) }
+        ensures err { IfErr result (RefusesRead (content_of self.old.files name.now) self.old.faults self.new.faults) }
+        ensures contents { (n : List ℕ) → content_of self.new.files n ≡ content_of self.old.files n }
         ensures count { self.old.faults ≤ self.new.faults }
 
         // Which calls fail is determined, and so is what is kept.

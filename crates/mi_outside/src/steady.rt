@@ -1,6 +1,6 @@
 //! Files and a sink that never fail.
 ghost use Rattle.std.specs.Prelude.{◌≡◌, ◌≢◌, [], Some, None, Ok, Err, length, unwrap_or, IfErr, OnOk, OnErr};
-ghost use Rattle.mi_outside.specs.Contents.{Gives, held};
+ghost use Rattle.mi_outside.specs.Contents.{SetsContent, content_of};
 ghost use Rattle.mi_outside.specs.Outside.{Reads, RefusesRead};
 
 use crate::folder::{Folder, add_content};
@@ -35,7 +35,7 @@ impl SteadyFiles {
 
     /// Gives the name this content, in place of an earlier one.
     pub fn add(&mut self, alloc: Global, name: &str, content: &[u8]) -> Result<(), NoMemory>
-        ensures ok { OnOk result (Gives self.old self.new name.now content.now) }
+        ensures ok { OnOk result (SetsContent self.old self.new name.now content.now) }
         ensures err { OnErr result (self.new ≡ self.old) }
     {
         self.folder.put(alloc, name, content)
@@ -43,13 +43,13 @@ impl SteadyFiles {
 }
 
 impl Files for SteadyFiles {
-    ghost content = { λ s n. Some (unwrap_or (held s n) []) };
+    ghost content = { λ s n. Some (unwrap_or (content_of s n) []) };
 
     ghost faults = { λ s. 0 };
 
     fn read(&mut self, name: &str, into: &mut Vec<u8>) -> Result<(), ReadRefusal>
-        ensures ok { OnOk result (Reads (Some (unwrap_or (held self.old name.now) [])) into.old.items into.new.items) }
-        ensures err { IfErr result (RefusesRead (Some (unwrap_or (held self.old name.now) [])) 0 0) }
+        ensures ok { OnOk result (Reads (Some (unwrap_or (content_of self.old name.now) [])) into.old.items into.new.items) }
+        ensures err { IfErr result (RefusesRead (Some (unwrap_or (content_of self.old name.now) [])) 0 0) }
         ensures steady { result ≢ Err ReadRefusal.Failed }
         ensures same { self.new ≡ self.old }
     {

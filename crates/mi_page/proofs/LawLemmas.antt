@@ -15,7 +15,7 @@ use Rattle.mi_key.specs.declared.ranges.Interval.{Interval}
 use Rattle.mi_key.specs.Entries.{offering_of}
 use Rattle.mi_key.specs.Ranges.{is_within}
 use Rattle.mi_page.specs.Keys.{Ascending}
-use Rattle.mi_page.specs.Entries.{entry_keys, entry_cmp, has_living, is_shown, outlives, shown_in, swept, trimmed, with_death, without_key}
+use Rattle.mi_page.specs.Entries.{entry_keys, entry_cmp, has_living, is_shown, outlives, shown_in, without_interval, without_dead, with_death, without_key}
 use Rattle.mi_page.proofs.OrderLemmas.{is_lt-nat_cmp, absent, filter_ascends}
 use Rattle.mi_page.proofs.NodeLemmas.{living_there}
 
@@ -75,7 +75,7 @@ outlives_earlier : (floor u : ℕ) (death : Option ℕ) → floor ≤ u → outl
 outlives_earlier floor u None le h = refl
 outlives_earlier floor u (Some d) le h = let l = ltb-true u d h in lt-ltb floor d (omega arith)
 
-pub trim_shows : (floor u : ℕ) (range : Interval) (entries : List Entry) → floor ≤ u → shown_in range u (trimmed floor entries) ≡ shown_in range u entries
+pub trim_shows : (floor u : ℕ) (range : Interval) (entries : List Entry) → floor ≤ u → shown_in range u (without_dead floor entries) ≡ shown_in range u entries
 trim_shows floor u range entries le =
     filter_within (λ e. is_within range e.key && is_shown u e) (λ e. outlives e.death floor)
     (λ e h. outlives_earlier floor u e.death le (and_parts (nat_le e.birth u) (outlives e.death u) (and_parts (is_within range e.key) (is_shown u e) h).1).1) entries
@@ -88,13 +88,13 @@ not_false : (b : Bool) → b ≡ false → not b ≡ true
 not_false true h = absurd (false≢true (sym h))
 not_false false h = refl
 
-pub sweep_hides : (range : Interval) (u : ℕ) (entries : List Entry) → shown_in range u (swept range entries) ≡ []
+pub sweep_hides : (range : Interval) (u : ℕ) (entries : List Entry) → shown_in range u (without_interval range entries) ≡ []
 sweep_hides range u entries =
     filter_none (λ e. is_within range e.key && is_shown u e) (λ e. not (is_within range e.key))
     (λ e h. not_of (is_within range e.key) (and_parts (is_within range e.key) (is_shown u e) h).0) entries
 
 pub sweep_keeps : (range other : Interval) (u : ℕ) (entries : List Entry) → ((key : ℕ) → IsTrue (is_within other key) → is_within range key ≡ false)
-    → shown_in other u (swept range entries) ≡ shown_in other u entries
+    → shown_in other u (without_interval range entries) ≡ shown_in other u entries
 sweep_keeps range other u entries apart =
     filter_within (λ e. is_within other e.key && is_shown u e) (λ e. not (is_within range e.key))
     (λ e h. not_false (is_within range e.key) (apart e.key (and_parts (is_within other e.key) (is_shown u e) h).0)) entries

@@ -48,9 +48,9 @@ abbrev pub without_key : ℕ → List Entry → List Entry
 without_key key entries = filter (λ e. not (e.key == key)) entries
 
 -- all but the entries whose death is at most the floor
-abbrev pub trimmed : ℕ → List Entry → List Entry
-trimmed floor entries = filter (λ e. outlives e.death floor) entries
+abbrev pub without_dead : ℕ → List Entry → List Entry
+without_dead floor entries = filter (λ e. outlives e.death floor) entries
 
 -- all but the entries of the interval
-abbrev pub swept : Interval → List Entry → List Entry
-swept range entries = filter (λ e. not (is_within range e.key)) entries
+abbrev pub without_interval : Interval → List Entry → List Entry
+without_interval range entries = filter (λ e. not (is_within range e.key)) entries

@@ -4,7 +4,7 @@ ghost use Rattle.std.specs.List.{AllByRecursion, prefix_len};
 ghost use Rattle.mi_base.specs.Sorting.{put};
 ghost use Rattle.mi_page.specs.Keys.{Ascending};
 ghost use Rattle.mi_key.specs.Entries.{offering_of};
-ghost use Rattle.mi_page.specs.Entries.{entry_cmp, entry_keys, has_entry, is_shown, outlives, shown_in, swept, trimmed, with_death, without_key};
+ghost use Rattle.mi_page.specs.Entries.{entry_cmp, entry_keys, has_entry, is_shown, outlives, shown_in, without_interval, without_dead, with_death, without_key};
 
 use mi_key::{Entry, Interval, Key, Sieve};
 
@@ -58,7 +58,7 @@ pub fn remove(entries: &mut Vec<Entry>, key: Key)
 
 /// Takes out the entries whose death is at most the floor.
 pub fn trim(entries: &mut Vec<Entry>, floor: u32)
-    ensures items { entries.new.items ≡ trimmed floor entries.old.items }
+    ensures items { entries.new.items ≡ without_dead floor entries.old.items }
     ensures capacity { vec_capacity entries.new ≡ vec_capacity entries.old }
 {
     entries.retain(|entry| outlives(entry, floor));
@@ -66,7 +66,7 @@ pub fn trim(entries: &mut Vec<Entry>, floor: u32)
 
 /// Takes out the entries of the interval.
 pub fn sweep(entries: &mut Vec<Entry>, range: &Interval)
-    ensures items { entries.new.items ≡ swept range.now entries.old.items }
+    ensures items { entries.new.items ≡ without_interval range.now entries.old.items }
     ensures capacity { vec_capacity entries.new ≡ vec_capacity entries.old }
 {
     entries.retain(|entry| !range.has(&entry.key));

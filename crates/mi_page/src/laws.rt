@@ -7,7 +7,7 @@ ghost use Rattle.mi_key.specs.declared.ranges.Interval.{Interval};
 ghost use Rattle.mi_key.specs.Entries.{offering_of};
 ghost use Rattle.mi_key.specs.Ranges.{is_within};
 ghost use Rattle.mi_page.specs.declared.routes.Route.{Route};
-ghost use Rattle.mi_page.specs.Entries.{entry_cmp, entry_keys, has_entry, has_living, is_shown, shown_in, swept, trimmed, with_death, without_key};
+ghost use Rattle.mi_page.specs.Entries.{entry_cmp, entry_keys, has_entry, has_living, is_shown, shown_in, without_interval, without_dead, with_death, without_key};
 ghost use Rattle.mi_page.specs.Keys.{Ascending, IsInside};
 ghost use Rattle.mi_page.specs.Routes.{IsChild, has_route, route_cmp, route_keys};
 ghost use Rattle.mi_page.specs.Nodes.{IsNode, Node, fresh_node, item_count, lower_half, middle_key, root_node, upper_half};
@@ -59,14 +59,14 @@ pub fn shown_is_a_filter()
 
 /// A trim changes nothing that is shown at the floor or later.
 pub fn trims_hide_nothing()
-    ensures { (floor updates : ℕ) (range : Interval) (entries : List Entry) → floor ≤ updates → shown_in range updates (trimmed floor entries) ≡ shown_in range updates entries }
+    ensures { (floor updates : ℕ) (range : Interval) (entries : List Entry) → floor ≤ updates → shown_in range updates (without_dead floor entries) ≡ shown_in range updates entries }
 {}
 
 /// A sweep hides what its interval shows, and nothing of an interval apart from it.
 pub fn sweeps_hide_their_interval()
-    ensures own { (range : Interval) (updates : ℕ) (entries : List Entry) → shown_in range updates (swept range entries) ≡ [] }
+    ensures own { (range : Interval) (updates : ℕ) (entries : List Entry) → shown_in range updates (without_interval range entries) ≡ [] }
     ensures other { (range other : Interval) (updates : ℕ) (entries : List Entry) → ((key : ℕ) → IsTrue (is_within other key) → is_within range key ≡ false)
-        → shown_in other updates (swept range entries) ≡ shown_in other updates entries }
+        → shown_in other updates (without_interval range entries) ≡ shown_in other updates entries }
 {}
 
 /// A removal hides its entry and nothing else.

@@ -3,7 +3,7 @@ ghost use Rattle.std.specs.Prelude.{◌≡◌, ◌+◌, ◌<◌, ◌≤◌, ◌+
 ghost use Rattle.std.specs.List.{AllByRecursion};
 ghost use Rattle.mi_base.specs.Sorting.{put};
 ghost use Rattle.mi_key.specs.Entries.{offering_of};
-ghost use Rattle.mi_page.specs.Entries.{entry_cmp, has_entry, has_living, shown_in, swept, trimmed, with_death, without_key};
+ghost use Rattle.mi_page.specs.Entries.{entry_cmp, has_entry, has_living, shown_in, without_interval, without_dead, with_death, without_key};
 ghost use Rattle.mi_page.specs.Keys.{IsInside};
 ghost use Rattle.mi_page.specs.Routes.{IsChild, has_route, route_cmp};
 ghost use Rattle.mi_page.specs.Nodes.{IsNode, fresh_node, item_count, lower_half, middle_key, root_node, upper_half};
@@ -183,7 +183,7 @@ impl Page {
     /// Takes out the entries whose death is at most the floor.
     pub fn trim(&mut self, floor: u32)
         requires leaf { self.old.level ≡ 0 }
-        ensures { self.new ≡ record self.old { entries = trimmed floor self.old.entries } }
+        ensures { self.new ≡ record self.old { entries = without_dead floor self.old.entries } }
     {
         entries::trim(&mut self.entries, floor);
     }
@@ -191,7 +191,7 @@ impl Page {
     /// Takes out the entries of the interval.
     pub fn sweep(&mut self, range: &Interval)
         requires leaf { self.old.level ≡ 0 }
-        ensures { self.new ≡ record self.old { entries = swept range.now self.old.entries } }
+        ensures { self.new ≡ record self.old { entries = without_interval range.now self.old.entries } }
     {
         entries::sweep(&mut self.entries, range);
     }

@@ -11,7 +11,7 @@ use Rattle.std.proofs.lemmas.Map.Lookups.{CmpEqualImpliesEq, exact_pairs, exact_
 use Rattle.mi_base.specs.Sorting.{put, sorted}
 use Rattle.mi_base.specs.Permutations.{pivot_cmp, permutation_of}
 use Rattle.mi_base.proofs.SortingLemmas.{sort_is, same_permutation}
-use Rattle.mi_perm.specs.Numbered.{numbered}
+use Rattle.mi_perm.specs.Numbered.{number_pair}
 
 -- by distance, then number
 abbrev pub pair_cmp : ℕ × ℕ → ℕ × ℕ → Ordering
@@ -35,21 +35,21 @@ pub sorted_map : {X Y : Type 0} (f : X → Y) (cmp : X → X → Ordering) (by :
 sorted_map f cmp by same [] = refl
 sorted_map f cmp by same (x ∷ xs) = ap (put by (f x)) (sorted_map f cmp by same xs) ∙ put_map f cmp by same x (sorted cmp xs)
 
-numbers_of : (dists ns : List ℕ) → map (λ (p : ℕ × ℕ). p.1) (map (numbered dists) ns) ≡ ns
+numbers_of : (dists ns : List ℕ) → map (λ (p : ℕ × ℕ). p.1) (map (number_pair dists) ns) ≡ ns
 numbers_of dists [] = refl
 numbers_of dists (n ∷ ns) = ap (λ ms. n ∷ ms) (numbers_of dists ns)
 
 -- the numbers of the sorted pairs are the permutation
-pub numbers-sorted : (dists : List ℕ) (ys : List (ℕ × ℕ)) → IsPermutation (map (numbered dists) (range_with_len 0 (length dists))) ys → IsSorted pair_cmp ys
+pub numbers-sorted : (dists : List ℕ) (ys : List (ℕ × ℕ)) → IsPermutation (map (number_pair dists) (range_with_len 0 (length dists))) ys → IsSorted pair_cmp ys
     → map (λ (p : ℕ × ℕ). p.1) ys ≡ permutation_of dists
 numbers-sorted dists ys p s =
     let all = range_with_len 0 (length dists) in
-    let xs = map (numbered dists) all in
-    ap (map (λ (p : ℕ × ℕ). p.1)) (sort_is pair_cmp pair_total pair_exact xs ys s (same_permutation xs ys p) ∙ sorted_map (numbered dists) (pivot_cmp dists) pair_cmp (λ a b. refl) all)
+    let xs = map (number_pair dists) all in
+    ap (map (λ (p : ℕ × ℕ). p.1)) (sort_is pair_cmp pair_total pair_exact xs ys s (same_permutation xs ys p) ∙ sorted_map (number_pair dists) (pivot_cmp dists) pair_cmp (λ a b. refl) all)
     ∙ numbers_of dists (permutation_of dists)
 
 -- the same, where the pairs were sorted in their place
-pub numbers-refilled : (dists : List ℕ) (xs ys : List (ℕ × ℕ)) → xs ≡ map (numbered dists) (range_with_len 0 (length dists)) → length ys ≡ length xs → IsPermutation xs ys → IsSorted pair_cmp ys
+pub numbers-refilled : (dists : List ℕ) (xs ys : List (ℕ × ℕ)) → xs ≡ map (number_pair dists) (range_with_len 0 (length dists)) → length ys ≡ length xs → IsPermutation xs ys → IsSorted pair_cmp ys
     → map (λ (p : ℕ × ℕ). p.1) (refill (length xs) xs ys) ≡ permutation_of dists
 numbers-refilled dists xs ys paired size p s =
     let spent : drop (length ys) xs ≡ [] = drop_all (length ys) xs (omega arith) in

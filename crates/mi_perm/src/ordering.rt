@@ -3,7 +3,7 @@ ghost use Rattle.std.specs.Prelude.{◌≡◌, ◌≤◌, ℕ, All, map, length}
 ghost use Rattle.std.specs.List.{range_with_len};
 ghost use Rattle.arrayvec.specs.ArrayVec.{array_vec_len};
 ghost use Rattle.mi_base.specs.Permutations.{distance_at_first, permutation_of};
-ghost use Rattle.mi_perm.specs.Numbered.{numbered};
+ghost use Rattle.mi_perm.specs.Numbered.{number_pair};
 
 use arrayvec::ArrayVec;
 use mi_base::{Dists, Perm};
@@ -42,7 +42,7 @@ fn nearest_first(dists: &Dists) -> ArrayVec<u8, 32>
 
 /// Each distance with its pivot's number.
 fn numbered(dists: &Dists) -> ArrayVec<(u32, u8), 32>
-    ensures { result.items ≡ map (numbered dists.now.items) (range_with_len 0 (array_vec_len dists.now)) }
+    ensures { result.items ≡ map (number_pair dists.now.items) (range_with_len 0 (array_vec_len dists.now)) }
 {
     let mut pairs = ArrayVec::new();
     for (number, distance) in dists.as_slice().iter().enumerate() {

@@ -16,15 +16,15 @@ use Rattle.mi_base.specs.Configuration.{Configuration}
 use Rattle.mi_base.specs.History.{Entered, end_of, entered, is_live, updates_of}
 use Rattle.mi_base.proofs.HistoryLemmas.{entered-append, updates_of-append}
 use Rattle.mi_tree.specs.InTurn.{BeganAt}
-use Rattle.mi_tree.specs.Legal.{accepted, events_to}
-use Rattle.mi_tree.specs.Right.{IsUpdateNumber, Right, before}
+use Rattle.mi_tree.specs.Legal.{accepted_update, events_to}
+use Rattle.mi_tree.specs.Right.{IsUpdateNumber, Right, updates_before}
 use Rattle.mi_plain.proofs.GrowingLemmas.{length-updates_of}
 use Rattle.mi_plain.proofs.RangeLemmas.{at_end, end_events, end_is}
 use Rattle.mi_plain.proofs.GrowingLemmas.{grows_none}
 use Rattle.mi_plain.specs.Answering.{Answers, Grows, GrowsBySplits, TellsBetween}
 
 -- nothing was entered
-pub unchanged : (c : Configuration) (log : List LogEvent) (session op : ℕ) (o : Op) (y : Reply) → accepted session op o y ≡ [] → Right c log session op o y → BeganAt (length (updates_of log)) y → TellsBetween log log y → Answers c log session op o y log
+pub unchanged : (c : Configuration) (log : List LogEvent) (session op : ℕ) (o : Op) (y : Reply) → accepted_update session op o y ≡ [] → Right c log session op o y → BeganAt (length (updates_of log)) y → TellsBetween log log y → Answers c log session op o y log
 unchanged c log session op o y none right began tells = record {
   grows = grows_none log;
   enters = sym (append-nil (entered log)) ∙ ap (λ es. entered log ++ es) (sym none);
@@ -62,7 +62,7 @@ number_gained old session op n u is =
           ∙ slice_get-append_seam (entered old) e [];
     }
 
-before_gained : (old : List LogEvent) (session op n : ℕ) (u : Update) → n ≡ length (updates_of old) + 1 → before n (old ++ Made session op u ∷ []) ≡ updates_of old
+before_gained : (old : List LogEvent) (session op n : ℕ) (u : Update) → n ≡ length (updates_of old) + 1 → updates_before n (old ++ Made session op u ∷ []) ≡ updates_of old
 before_gained old session op n u is =
     let last : n - 1 ≡ length (updates_of old) = omega (arith, is) in
     ap (λ k. take k (updates_of (old ++ Made session op u ∷ []))) last
@@ -97,8 +97,8 @@ module _ (old mid new : List LogEvent) (by : GrowsBySplits old mid) (session op 
   number_updated : IsUpdateNumber new n (record { session = session; op = op; update = u })
   number_updated = subst (λ (l : List LogEvent). IsUpdateNumber l n (record { session = session; op = op; update = u })) (sym grown) (number_gained mid session op n u is)
 
-  before_updated : before n new ≡ updates_of old
-  before_updated = ap (before n) grown ∙ before_gained mid session op n u is ∙ same_updates
+  before_updated : updates_before n new ≡ updates_of old
+  before_updated = ap (updates_before n) grown ∙ before_gained mid session op n u is ∙ same_updates
 
   began_updated : n ≡ length (updates_of old) + 1
   began_updated = is ∙ ap (λ us. length us + 1) same_updates

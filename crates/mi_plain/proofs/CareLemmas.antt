@@ -10,7 +10,7 @@ use Rattle.mi_base.specs.History.{live, splits_of, updates_of}
 use Rattle.mi_base.specs.Permutations.{begins}
 use Rattle.mi_base.proofs.HistoryLemmas.{few_updates}
 use Rattle.mi_board.specs.declared.actors.ActorState.{ActorState}
-use Rattle.mi_board.specs.Actors.{actor_at, change, claiming, is_claim, is_claimed, released}
+use Rattle.mi_board.specs.Actors.{actor_at, change, with_claim, is_claim, is_claimed, without_claim}
 use Rattle.mi_board.specs.Boards.{BoardState, first_wanted, is_free}
 use Rattle.mi_board.proofs.BoardLemmas.{split_legal}
 use Rattle.mi_key.specs.declared.entries.Entry.{Entry}
@@ -19,7 +19,7 @@ use Rattle.mi_plain.proofs.SplittingLemmas.{config_grid}
 use Rattle.mi_tree.specs.declared.outcomes.Leaf.{Leaf}
 use Rattle.mi_tree.specs.declared.counts.Placed.{Placed}
 use Rattle.mi_tree.specs.Cells.{same_cell}
-use Rattle.mi_tree.specs.Counting.{beginning, belongs, is_crowded, is_splittable, is_wanted, placed}
+use Rattle.mi_tree.specs.Counting.{leaves_beginning, belongs, is_crowded, is_splittable, is_wanted, placed_object}
 use Rattle.mi_tree.specs.Legal.{LegalLog, MayFollow, Settled, cells_of}
 use Rattle.mi_tree.proofs.LeafLemmas.{same_self}
 use Rattle.mi_tree.proofs.LegalLemmas.{grid, updates_of_split}
@@ -53,12 +53,12 @@ found_wanted b (l ∷ ls) leaf h =
     ]) refl h
 
 -- a leaf that begins a permutation is to be split, where it is wanted
-pub beginning_wanted : (levels cell : ℕ) (perm : List ℕ) (ls : List Leaf) (leaf : Leaf) → beginning perm ls ≡ leaf ∷ [] → is_wanted levels cell leaf ≡ true
+pub beginning_wanted : (levels cell : ℕ) (perm : List ℕ) (ls : List Leaf) (leaf : Leaf) → leaves_beginning perm ls ≡ leaf ∷ [] → is_wanted levels cell leaf ≡ true
     → list_any (λ l. same_cell leaf.prefix l.prefix && is_wanted levels cell l) ls ≡ true
 beginning_wanted levels cell perm [] leaf h w = cc
 beginning_wanted levels cell perm (l ∷ ls) leaf h w =
     let T : Leaf → Bool = λ x. same_cell leaf.prefix x.prefix && is_wanted levels cell x in
-    let P : Bool → Type 0 = λ t. cond t (l ∷ beginning perm ls) (beginning perm ls) ≡ leaf ∷ [] → (T l || list_any T ls) ≡ true in
+    let P : Bool → Type 0 = λ t. cond t (l ∷ leaves_beginning perm ls) (leaves_beginning perm ls) ≡ leaf ∷ [] → (T l || list_any T ls) ≡ true in
     (elim (begins l.prefix perm) as P [
       | true ↦ λ k.
           let same : l ≡ leaf = cc in
@@ -85,7 +85,7 @@ pub less_work : (c : Configuration) (limits : IsWithinLimits c) (log : List LogE
     → 2 * (c.updates * c.levels - splits_of (log ++ Split p ∷ [])) + (n + 1) < 2 * (c.updates * c.levels - splits_of log) + n
 less_work c limits log p n legal may =
     let g = grid c in
-    let objects : List Placed = map (placed g) (filter (belongs g p) (live (updates_of log))) in
+    let objects : List Placed = map (placed_object g) (filter (belongs g p) (live (updates_of log))) in
     let legal' : LegalLog c (log ++ Split p ∷ []) = split_legal c limits log legal p may objects (record { sums = λ f. refl }) in
     omega (
       arith,
@@ -105,11 +105,11 @@ crowded_wanted levels cell leaf some h =
 
 -- a claim of the first actor that ends in a split leaves none, where there was none, and the reservation as it was
 pub none_after : (p : List ℕ) (actors : List ActorState) → (actor_at actors 0).claim ≡ None → (actor_at actors 1).claim ≡ None
-    → ((actor_at (change released 0 (change (claiming p) 0 actors)) 0).claim ≡ None) × ((actor_at (change released 0 (change (claiming p) 0 actors)) 1).claim ≡ None)
+    → ((actor_at (change without_claim 0 (change (with_claim p) 0 actors)) 0).claim ≡ None) × ((actor_at (change without_claim 0 (change (with_claim p) 0 actors)) 1).claim ≡ None)
 none_after p [] f s = (refl, refl)
 none_after p (a ∷ actors) f s = (refl, s)
 
-pub reserved_after : (p : List ℕ) (actors : List ActorState) → (actor_at (change released 0 (change (claiming p) 0 actors)) 0).reserved ≡ (actor_at actors 0).reserved
+pub reserved_after : (p : List ℕ) (actors : List ActorState) → (actor_at (change without_claim 0 (change (with_claim p) 0 actors)) 0).reserved ≡ (actor_at actors 0).reserved
 reserved_after p [] = refl
 reserved_after p (a ∷ actors) = refl
 
@@ -119,7 +119,7 @@ module _ (b : BoardState) (pivots : List (List ℤ)) (entries : List (ℕ × Ent
   settled idle none = none_wanted b (unclaimed b.actors is.two idle.0 idle.1) (cells_of b.settings b.log) none
 
   -- a crowded leaf may be split
-  pub crowded_may : (perm : List ℕ) (leaf : Leaf) → beginning perm (cells_of b.settings b.log) ≡ leaf ∷ [] → is_crowded b.settings.levels b.settings.cell leaf ≡ true → MayFollow b.settings b.log (Split leaf.prefix)
+  pub crowded_may : (perm : List ℕ) (leaf : Leaf) → leaves_beginning perm (cells_of b.settings b.log) ≡ leaf ∷ [] → is_crowded b.settings.levels b.settings.cell leaf ≡ true → MayFollow b.settings b.log (Split leaf.prefix)
   crowded_may perm leaf one full =
       beginning_wanted b.settings.levels b.settings.cell perm (cells_of b.settings b.log) leaf one
       (crowded_wanted b.settings.levels b.settings.cell leaf is.limits.cell.0 full)

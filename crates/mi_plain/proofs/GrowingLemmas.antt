@@ -16,8 +16,8 @@ use Rattle.mi_base.specs.Configuration.{Configuration, metric_space, space_of}
 use Rattle.mi_base.specs.History.{Entered, entered, updates_of, is_live, events_at, at_position, IsPosition, range_scan, nearest_scan}
 use Rattle.mi_base.proofs.HistoryLemmas.{entered-append, updates_of-append}
 use Rattle.mi_tree.specs.Legal.{events_to, reach}
-use Rattle.mi_tree.specs.Passing.{opened, candidates, kth_distance, reached}
-use Rattle.mi_tree.specs.Right.{Right, IsUpdateNumber, IsNearest, IsRange, before}
+use Rattle.mi_tree.specs.Passing.{opened_count, candidates, kth_distance, reached_count}
+use Rattle.mi_tree.specs.Right.{Right, IsUpdateNumber, IsNearest, IsRange, updates_before}
 use Rattle.mi_plain.specs.Answering.{Grows, GrowsBySplits}
 
 pub grows_none : (log : List LogEvent) → Grows log log
@@ -62,7 +62,7 @@ number_grows log more n e is = record {
 number_within : (log : List LogEvent) (n : ℕ) (e : Entered) → IsUpdateNumber log n e → n ≤ length (updates_of log)
 number_within log n e is = omega (arith, is.counted, slice_get_within (entered log) (n - 1) e is.stands, length-updates_of log)
 
-before_grows : (log more : List LogEvent) (n : ℕ) (e : Entered) → IsUpdateNumber log n e → before n (log ++ more) ≡ before n log
+before_grows : (log more : List LogEvent) (n : ℕ) (e : Entered) → IsUpdateNumber log n e → updates_before n (log ++ more) ≡ updates_before n log
 before_grows log more n e is =
     let within : n - 1 ≤ length (updates_of log) = omega (arith, number_within log n e is) in
     ap (take (n - 1)) (updates_of-append log more) ∙ take-append-le (n - 1) (updates_of log) (updates_of more) within
@@ -84,7 +84,7 @@ range_grows c log more radius query p rows cells distances h =
     record {
       position = position_grows log more p h.position;
       rows_are = h.rows_are ∙ ap (λ l. range_scan (metric_space c) (updates_of l) query radius) same;
-      cells_are = h.cells_are ∙ ap (λ l. opened (space_of c) c.levels l query radius) same;
+      cells_are = h.cells_are ∙ ap (λ l. opened_count (space_of c) c.levels l query radius) same;
       distances_are = h.distances_are ∙ ap (λ l. length c.pivots + length (candidates (space_of c) c.levels l query radius)) same;
     }
 
@@ -95,7 +95,7 @@ nearest_grows c log more count query p rows cells h =
     record {
       position = position_grows log more p h.position;
       rows_are = h.rows_are ∙ ap (λ l. nearest_scan (metric_space c) (updates_of l) query count) same;
-      cells_are = h.cells_are ∙ ap (λ l. reached (space_of c) c.levels l query (kth_distance count rows)) same;
+      cells_are = h.cells_are ∙ ap (λ l. reached_count (space_of c) c.levels l query (kth_distance count rows)) same;
     }
 
 pub right_grows : (c : Configuration) (log more : List LogEvent) (session op : ℕ) (o : Op) (y : Reply) → StaysFull c log more → Right c log session op o y → Right c (log ++ more) session op o y

@@ -27,7 +27,7 @@ use Rattle.mi_key.specs.Ranges.{is_within}
 use Rattle.mi_key.proofs.ClusterLemmas.{cluster-exact}
 use Rattle.mi_nearest.specs.declared.order.Rank.{Rank}
 use Rattle.mi_nearest.specs.Order.{IsRank, IsRanked, leaves_at, rank_cmp}
-use Rattle.mi_nearest.specs.Nearing.{Nearing, Takes, first_rows, stops_at, worst_of}
+use Rattle.mi_nearest.specs.Nearing.{Nearing, TakesNearest, first_rows, stops_at, worst_of}
 use Rattle.mi_nearest.proofs.FirstLemmas.{first_of_same}
 use Rattle.mi_nearest.proofs.WalkLemmas.{NoNearer, StopsAt, Walked, all_at, all_later, below_next, far_out, rows_at, same_flat, walk_ends, walked_more}
 use Rattle.mi_rules.specs.Answers.{IsAnswer, MayHold}
@@ -35,16 +35,16 @@ use Rattle.mi_rules.specs.Spans.{is_near}
 use Rattle.mi_rules.proofs.RuleLemmas.{answer_bound, answer_near, hull_near, near_cluster}
 use Rattle.mi_tree.specs.declared.outcomes.Leaf.{Leaf}
 use Rattle.mi_tree.specs.Cells.{depth, leaf_of, leaves}
-use Rattle.mi_tree.specs.Counting.{belongs, held, in_hull, leaf_with}
+use Rattle.mi_tree.specs.Counting.{belongs, population, in_hull, leaf_with}
 use Rattle.mi_tree.specs.Legal.{LegalLog, cells_of}
-use Rattle.mi_tree.specs.Passing.{IsBound, hull_passes, kth_distance, reached, reached_objects}
+use Rattle.mi_tree.specs.Passing.{IsBound, hull_passes, kth_distance, reached_count, reached_objects}
 use Rattle.mi_tree.proofs.CatLemmas.{held_live}
 use Rattle.mi_tree.proofs.FitLemmas.{Fits}
 use Rattle.mi_tree.proofs.LeafLemmas.{begins_take, one_leaf}
 use Rattle.mi_tree.proofs.LegalLemmas.{all_may}
 use Rattle.mi_tree.proofs.ListLemmas.{all_any, all_map, all_weaker, filter_map, map_twice}
 use Rattle.mi_plain.specs.Answering.{Answers}
-use Rattle.mi_plain.specs.Opening.{offerings, spanned}
+use Rattle.mi_plain.specs.Opening.{offerings, entries_in_span}
 use Rattle.mi_plain.specs.Plain.{IsKept, grid_for, object_in}
 use Rattle.mi_plain.proofs.KeyLemmas.{distance_fits}
 use Rattle.mi_plain.proofs.OpenedLemmas.{cells_fit, leaf_fits}
@@ -133,11 +133,11 @@ module _ (c : Configuration) (limits : IsWithinLimits c) (log : List LogEvent) (
   answer_at : (e : ℕ × Entry) → IsKept c log e.0 e.1 → (radius : ℕ) → (metric_space c).d query e.1.vector ≤ radius → IsAnswer (space_of c) query e.1.vector radius
   answer_at e kept radius near = record { metric = metric; pivots_fit = limits.pivots; query_fits = fits; object_fits = kept.fits; near = near }
 
-  may_hold : (e : ℕ × Entry) → Covered c log e → (p : List ℕ) → belongs (grid_for c) p (object_in e) ≡ true → MayHold (leaf_with (grid_for c) (held (grid_for c) log) p) (distances (space_of c) e.1.vector)
+  may_hold : (e : ℕ × Entry) → Covered c log e → (p : List ℕ) → belongs (grid_for c) p (object_in e) ≡ true → MayHold (leaf_with (grid_for c) (population (grid_for c) log) p) (distances (space_of c) e.1.vector)
   may_hold e covered p b = record { begun = b; covered = covered p b }
 
-  none_nearer_in : (p : List ℕ) (bound : ℕ) → IsBound (distances (space_of c) query) (leaf_with (grid_for c) (held (grid_for c) log) p) (Some bound) → (es : List (ℕ × Entry)) → AllByRecursion (λ e. IsKept c log e.0 e.1) es
-      → AllByRecursion (Covered c log) es → AllByRecursion (λ row. bound ≤ row.distance) (rows_in c query es (leaf_with (grid_for c) (held (grid_for c) log) p))
+  none_nearer_in : (p : List ℕ) (bound : ℕ) → IsBound (distances (space_of c) query) (leaf_with (grid_for c) (population (grid_for c) log) p) (Some bound) → (es : List (ℕ × Entry)) → AllByRecursion (λ e. IsKept c log e.0 e.1) es
+      → AllByRecursion (Covered c log) es → AllByRecursion (λ row. bound ≤ row.distance) (rows_in c query es (leaf_with (grid_for c) (population (grid_for c) log) p))
   none_nearer_in p bound b [] kept covered = tt
   none_nearer_in p bound b (e ∷ es) kept covered =
       let row = row_of (metric_space c) query in
@@ -147,7 +147,7 @@ module _ (c : Configuration) (limits : IsWithinLimits c) (log : List LogEvent) (
       (elim (T (object_in e)) as P [
         | true ↦ λ t. (
           answer_bound (space_of c) query e.1.vector ((metric_space c).d query e.1.vector) (answer_at e kept.0 ((metric_space c).d query e.1.vector) (omega arith))
-              (leaf_with (grid_for c) (held (grid_for c) log) p) (may_hold e covered.0 p t) bound b,
+              (leaf_with (grid_for c) (population (grid_for c) log) p) (may_hold e covered.0 p t) bound b,
           rest,
         )
         | false ↦ λ t. rest
@@ -159,19 +159,19 @@ module _ (c : Configuration) (limits : IsWithinLimits c) (log : List LogEvent) (
   none_nearer_cells es kept same =
       let g = grid_for c in
       let N = NoNearer (distances (space_of c) query) (rows_in c query es) in
-      all_map (leaf_with g (held g log)) N (leaves g log)
-      (all_any (λ (p : List ℕ). N (leaf_with g (held g log) p)) (λ p bound b. none_nearer_in p bound b es kept (all_covered c log es same)) (leaves g log))
+      all_map (leaf_with g (population g log)) N (leaves g log)
+      (all_any (λ (p : List ℕ). N (leaf_with g (population g log) p)) (λ p bound b. none_nearer_in p bound b es kept (all_covered c log es same)) (leaves g log))
 
   -- an entry belongs to one leaf that has a hull
-  one_owner : (e : ℕ × Entry) → Covered c log e → filter (owns c e) (filter (λ l. is_some l.hull) (cells_of c log)) ≡ leaf_with (grid_for c) (held (grid_for c) log) (leaf_of (grid_for c) log ((grid_for c).perm e.1.vector)) ∷ []
+  one_owner : (e : ℕ × Entry) → Covered c log e → filter (owns c e) (filter (λ l. is_some l.hull) (cells_of c log)) ≡ leaf_with (grid_for c) (population (grid_for c) log) (leaf_of (grid_for c) log ((grid_for c).perm e.1.vector)) ∷ []
   one_owner e covered =
       let g = grid_for c in
       let ok = is_grid c limits log legal in
       let perm = g.perm e.1.vector in
       let own = leaf_of g log perm in
-      let leaf = leaf_with g (held g log) own in
+      let leaf = leaf_with g (population g log) own in
       let one : filter (owns c e) (cells_of c log) ≡ leaf ∷ [] =
-      sym (filter_map (leaf_with g (held g log)) (owns c e) (leaves g log)) ∙ ap (map (leaf_with g (held g log))) (one_leaf g perm (ok.perms e.1.vector).0 (ok.perms e.1.vector).1 ok log (all_may c log legal)) in
+      sym (filter_map (leaf_with g (population g log)) (owns c e) (leaves g log)) ∙ ap (map (leaf_with g (population g log))) (one_leaf g perm (ok.perms e.1.vector).0 (ok.perms e.1.vector).1 ok log (all_may c log legal)) in
       let inside = covered own (begins_take (depth g log perm) perm) in
       let P : Option (ℕ × ℕ) → Type 0 = λ h. in_hull (g.distance e.1.vector) h ≡ true → is_some h ≡ true in
       let go : (h : Option (ℕ × ℕ)) → P h = elim [ None ↦ λ i. absurd (false≢true i) | Some h ↦ λ i. refl ] in
@@ -199,7 +199,7 @@ module _ (c : Configuration) (limits : IsWithinLimits c) (log : List LogEvent) (
 
   -- a leaf counts the rows of its objects
   pub rows_counted : (es : List (ℕ × Entry)) → SameElements (map object_in es) (live (updates_of log)) → (p : List ℕ)
-      → length (rows_in c query es (leaf_with (grid_for c) (held (grid_for c) log) p)) ≡ (leaf_with (grid_for c) (held (grid_for c) log) p).count
+      → length (rows_in c query es (leaf_with (grid_for c) (population (grid_for c) log) p)) ≡ (leaf_with (grid_for c) (population (grid_for c) log) p).count
   rows_counted es same p =
       let g = grid_for c in
       let T = belongs g p in
@@ -226,14 +226,14 @@ module _ (c : Configuration) (limits : IsWithinLimits c) (log : List LogEvent) (
     pub only : (v : List ℤ) → begins p ((grid_for c).perm v) ≡ true → p ≡ leaf_of (grid_for c) log ((grid_for c).perm v)
 
   -- what isn't read of it is farther than the last row
-  unread_far : (e : ℕ × Entry) → IsKept c log e.0 e.1 → Covered c log e → (p : List ℕ) → IsCell p → (hull : ℕ × ℕ) → (leaf_with (grid_for c) (held (grid_for c) log) p).hull ≡ Some hull → (worst : Option ℕ)
+  unread_far : (e : ℕ × Entry) → IsKept c log e.0 e.1 → Covered c log e → (p : List ℕ) → IsCell p → (hull : ℕ × ℕ) → (leaf_with (grid_for c) (population (grid_for c) log) p).hull ≡ Some hull → (worst : Option ℕ)
       → belongs (grid_for c) p (object_in e) ≡ true → is_near (distances (space_of c) query) worst c.levels p hull (parts_of e.1.key) ≡ false → StopsAt worst ((metric_space c).d query e.1.vector)
   unread_far e kept covered p cell hull has worst b out =
       let g = grid_for c in
       let n = length c.pivots in
       let dq = distances (space_of c) query in
       let dists = distances (space_of c) e.1.vector in
-      let leaf = leaf_with g (held g log) p in
+      let leaf = leaf_with g (population g log) p in
       let parts = parts_of e.1.key in
       let d = (metric_space c).d query e.1.vector in
       let mine = cell.only e.1.vector b in
@@ -259,17 +259,17 @@ module _ (c : Configuration) (limits : IsWithinLimits c) (log : List LogEvent) (
     pub same : SameElements rows (far ++ read)
     pub all_far : AllByRecursion (λ row. StopsAt worst row.distance) far
 
-  read_parts : (p : List ℕ) → IsCell p → (hull : ℕ × ℕ) → (leaf_with (grid_for c) (held (grid_for c) log) p).hull ≡ Some hull → (worst : Option ℕ) (span : Interval)
+  read_parts : (p : List ℕ) → IsCell p → (hull : ℕ × ℕ) → (leaf_with (grid_for c) (population (grid_for c) log) p).hull ≡ Some hull → (worst : Option ℕ) (span : Interval)
       → ((key : ℕ) → is_within span key ≡ is_near (distances (space_of c) query) worst c.levels p hull (parts_of key))
       → (es : List (ℕ × Entry)) → AllByRecursion (λ e. IsKept c log e.0 e.1) es → AllByRecursion (Covered c log) es
-      → Parts worst (rows_in c query es (leaf_with (grid_for c) (held (grid_for c) log) p)) (map (row_of (metric_space c) query) (map object_in (spanned span es)))
+      → Parts worst (rows_in c query es (leaf_with (grid_for c) (population (grid_for c) log) p)) (map (row_of (metric_space c) query) (map object_in (entries_in_span span es)))
   read_parts p cell hull has worst span within [] kept covered = record { far = []; same = record { sums = λ f. refl }; all_far = tt }
   read_parts p cell hull has worst span within (e ∷ es) kept covered =
       let row = row_of (metric_space c) query in
       let T = belongs (grid_for c) p in
       let o = object_in e in
       let F = filter T (map object_in es) in
-      let sp = spanned span es in
+      let sp = entries_in_span span es in
       let S = map row (map object_in sp) in
       let ih = read_parts p cell hull has worst span within es kept.1 covered.1 in
       let Q : Bool → Bool → Type 0 = λ a b. T o ≡ a → is_within span e.1.key ≡ b → Parts worst (map row (cond a (o ∷ F) F)) (map row (map object_in (cond b (e ∷ sp) sp))) in
@@ -302,16 +302,16 @@ module _ (c : Configuration) (limits : IsWithinLimits c) (log : List LogEvent) (
 
   -- an opened leaf: the rows are the first ones of those before and of all the leaf's, and no more steps were taken than it has objects
   pub opened_leaf : (es : List (ℕ × Entry)) → AllByRecursion (λ e. IsKept c log e.0 e.1) es → SameElements (map object_in es) (live (updates_of log))
-      → (p : List ℕ) → IsCell p → (hull : ℕ × ℕ) → (leaf_with (grid_for c) (held (grid_for c) log) p).hull ≡ Some hull → (span : Interval) (w v : Nearing) (n k : ℕ)
+      → (p : List ℕ) → IsCell p → (hull : ℕ × ℕ) → (leaf_with (grid_for c) (population (grid_for c) log) p).hull ≡ Some hull → (span : Interval) (w v : Nearing) (n k : ℕ)
       → ((key : ℕ) → is_within span key ≡ is_near (distances (space_of c) query) (worst_of w) c.levels p hull (parts_of key))
-      → Takes (metric_space c) query w n (offerings (spanned span es)) v k → (before : List Row) → w.rows ≡ first_rows w.count before
-      → (v.rows ≡ first_rows w.count (before ++ rows_in c query es (leaf_with (grid_for c) (held (grid_for c) log) p))) × (k ≤ n + (leaf_with (grid_for c) (held (grid_for c) log) p).count)
+      → TakesNearest (metric_space c) query w n (offerings (entries_in_span span es)) v k → (before : List Row) → w.rows ≡ first_rows w.count before
+      → (v.rows ≡ first_rows w.count (before ++ rows_in c query es (leaf_with (grid_for c) (population (grid_for c) log) p))) × (k ≤ n + (leaf_with (grid_for c) (population (grid_for c) log) p).count)
   opened_leaf es kept same p cell hull has span w v n k within takes before e =
       let g = grid_for c in
       let row = row_of (metric_space c) query in
-      let leaf = leaf_with g (held g log) p in
+      let leaf = leaf_with g (population g log) p in
       let rows = rows_in c query es leaf in
-      let sp = spanned span es in
+      let sp = entries_in_span span es in
       let S = map row (map object_in sp) in
       let parts = read_parts p cell hull has (worst_of w) span within es kept (all_covered c log es same) in
       let offered : map (λ (o : Offering). row o.object) (offerings sp) ≡ S = offered_rows sp (filter_keeps (λ (x : ℕ × Entry). IsKept c log x.0 x.1) (λ (x : ℕ × Entry). is_within span x.1.key) es kept) in
@@ -327,13 +327,13 @@ module _ (c : Configuration) (limits : IsWithinLimits c) (log : List LogEvent) (
       )
 
   -- the cell at a place
-  pub cell_at : (i : ℕ) (leaf : Leaf) → slice_get (cells_of c log) i ≡ Some leaf → (p : List ℕ) × ((leaf ≡ leaf_with (grid_for c) (held (grid_for c) log) p) × IsCell p)
+  pub cell_at : (i : ℕ) (leaf : Leaf) → slice_get (cells_of c log) i ≡ Some leaf → (p : List ℕ) × ((leaf ≡ leaf_with (grid_for c) (population (grid_for c) log) p) × IsCell p)
   cell_at i leaf at =
       let g = grid_for c in
       let ok = is_grid c limits log legal in
       let may = all_may c log legal in
       let F = Fits (length c.pivots) c.levels in
-      let found = mapped_at (leaf_with g (held g log)) (leaves g log) i leaf at in (
+      let found = mapped_at (leaf_with g (population g log)) (leaves g log) i leaf at in (
         found.0,
         (
           found.1.1,
@@ -365,7 +365,7 @@ module _ (c : Configuration) (limits : IsWithinLimits c) (log : List LogEvent) (
       let scanned : rows ≡ nearest_scan (metric_space c) (updates_of log) query count =
       ended.rows_are ∙ first_of_same count (flat_map (rows_in c query es) (leaves_at cells ranks)) all
       (same_trans (same_flat (rows_in c query es) (leaves_at cells ranks) (filter (λ (l : Leaf). is_some l.hull) cells) ranked.all) (all_rows es same)) in
-      let counted : opened ≡ reached (space_of c) c.levels log query worst = opened_is ∙ sym (ended.sums (λ (l : Leaf). 1)) in
+      let counted : opened ≡ reached_count (space_of c) c.levels log query worst = opened_is ∙ sym (ended.sums (λ (l : Leaf). 1)) in
       let P : Position → Type 0 = λ p. Answers c log 0 op (Op.Nearest count query) (Reply.Nearest p rows opened) log in (
         subst P (sym at_is) (record {
           grows = record { by = []; is = sym (append-nil log) };
@@ -373,7 +373,7 @@ module _ (c : Configuration) (limits : IsWithinLimits c) (log : List LogEvent) (
           right = record {
             position = end_is log;
             rows_are = scanned ∙ ap (λ (l : List LogEvent). nearest_scan (metric_space c) (updates_of l) query count) (sym whole);
-            cells_are = counted ∙ ap (λ (l : List LogEvent). reached (space_of c) c.levels l query worst) (sym whole);
+            cells_are = counted ∙ ap (λ (l : List LogEvent). reached_count (space_of c) c.levels l query worst) (sym whole);
           };
           began = refl;
           tells = (omega (arith, end_events log), omega (arith, end_events log));
@@ -397,7 +397,7 @@ module _ (c : Configuration) (limits : IsWithinLimits c) (log : List LogEvent) (
       → IsRanked (distances (space_of c) query) (cells_of c log) ranks → ranks ≡ done ++ r ∷ rest → (leaf : Leaf) → slice_get (cells_of c log) r.place ≡ Some leaf → (w v : Nearing) (n k : ℕ) (span : Interval) → w.count ≡ count
       → Walked count (cells_of c log) (rows_in c query es) done w.rows → IfSome (kth_distance count w.rows) (λ worst. r.bound ≤ worst)
       → IfSome leaf.hull (λ hull. (key : ℕ) → is_within span key ≡ is_near (distances (space_of c) query) (kth_distance count w.rows) c.levels leaf.prefix hull (parts_of key))
-      → Takes (metric_space c) query w n (offerings (spanned span es)) v k → Opened es count done r leaf v.rows n k
+      → TakesNearest (metric_space c) query w n (offerings (entries_in_span span es)) v k → Opened es count done r leaf v.rows n k
   walk_step es kept same count one ranks done rest r ranked parts leaf at w v n k span count_is walked next read takes =
       let g = grid_for c in
       let cells = cells_of c log in
@@ -416,14 +416,14 @@ module _ (c : Configuration) (limits : IsWithinLimits c) (log : List LogEvent) (
       let go : (o : Option (ℕ × ℕ)) → R o = elim [
         | None ↦ λ e within. absurd (false≢true (ap (hull_passes dq r.bound is.leaf.prefix) (sym e ∙ ap (λ (l : Leaf). l.hull) (sym mine)) ∙ passed))
         | Some hull ↦ λ e within.
-            let has : (leaf_with g (held g log) p).hull ≡ Some hull = ap (λ (l : Leaf). l.hull) (sym found.1.0) ∙ e in
+            let has : (leaf_with g (population g log) p).hull ≡ Some hull = ap (λ (l : Leaf). l.hull) (sym found.1.0) ∙ e in
             let same_prefix : leaf.prefix ≡ p = ap (λ (l : Leaf). l.prefix) found.1.0 in
             let reads : (key : ℕ) → is_within span key ≡ is_near dq (worst_of w) c.levels p hull (parts_of key) = λ key.
             within key ∙ ap (λ (x : List ℕ). is_near dq (kth_distance count w.rows) c.levels x hull (parts_of key)) same_prefix
             ∙ ap (λ (x : ℕ). is_near dq (kth_distance x w.rows) c.levels p hull (parts_of key)) (sym count_is) in
             let opened = opened_leaf es kept same p found.1.1 hull has span w v n k reads takes before first in
             let rows : v.rows ≡ first_rows count (before ++ rows_in c query es is.leaf) =
-            opened.0 ∙ ap (λ (x : ℕ). first_rows x (before ++ rows_in c query es (leaf_with g (held g log) p))) count_is
+            opened.0 ∙ ap (λ (x : ℕ). first_rows x (before ++ rows_in c query es (leaf_with g (population g log) p))) count_is
             ∙ ap (λ (l : Leaf). first_rows count (before ++ rows_in c query es l)) (sym found.1.0 ∙ sym mine) in
             record {
               walked = walked_more dq count cells (rows_in c query es) done w.rows v.rows r is one (all_at (NoNearer dq (rows_in c query es)) cells r.place is.leaf apart is.stands) low next walked rows;

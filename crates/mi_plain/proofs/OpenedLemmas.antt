@@ -16,7 +16,7 @@ use Rattle.mi_base.specs.Prefixes.{has}
 use Rattle.mi_base.proofs.LiveLemmas.{length_filter}
 use Rattle.mi_tree.specs.declared.outcomes.Leaf.{Leaf}
 use Rattle.mi_tree.specs.Cells.{children, same_cell, split_cell, leaves_after, first_leaves, leaves}
-use Rattle.mi_tree.specs.Counting.{held, leaf_with}
+use Rattle.mi_tree.specs.Counting.{population, leaf_with}
 use Rattle.mi_tree.specs.Legal.{LegalLog, cells_of}
 use Rattle.mi_tree.specs.Order.{before, in_order}
 use Rattle.std.proofs.lemmas.List.Elements.{recursion_from_All}
@@ -24,7 +24,7 @@ use Rattle.mi_tree.proofs.FitLemmas.{Fits, leaves_fit}
 use Rattle.mi_tree.proofs.ListLemmas.{all_map}
 use Rattle.mi_tree.proofs.LeafLemmas.{same_cell_is}
 use Rattle.mi_tree.proofs.LegalLemmas.{grid, all_may}
-use Rattle.mi_tree.proofs.OrderLemmas.{InOrder, order_from_test, split_keeps_order, first_leaves_in_order}
+use Rattle.mi_tree.proofs.OrderLemmas.{StandInOrder, order_from_test, split_keeps_order, first_leaves_in_order}
 use Rattle.mi_nearest.proofs.WalkLemmas.{all_at}
 use Rattle.mi_board.proofs.BoardLemmas.{is_grid, log_short}
 
@@ -48,7 +48,7 @@ none_same p (q ∷ ls) h =
     ]) refl
 
 -- no prefix stands twice
-few_same : (p : List ℕ) (ls : List (List ℕ)) → InOrder ls → length (filter (same_cell p) ls) ≤ 1
+few_same : (p : List ℕ) (ls : List (List ℕ)) → StandInOrder ls → length (filter (same_cell p) ls) ≤ 1
 few_same p [] h = omega arith
 few_same p (q ∷ ls) h =
     let P : Bool → Type 0 = λ b. same_cell p q ≡ b → length (cond b (q ∷ filter (same_cell p) ls) (filter (same_cell p) ls)) ≤ 1 in
@@ -103,13 +103,13 @@ module _ (c : Configuration) (limits : IsWithinLimits c) (log : List LogEvent) (
       let n = length c.pivots in
       let all = few_from n (first_leaves n) log (first_leaves_in_order n) in
       let most : n * length log ≤ 32 * 1400000 = mul-le n (length log) 32 1400000 limits.few_pivots (log_short c limits log legal) in
-      omega (arith, all, most, first_few n, limits.few_pivots, length-map (leaves g log) (leaf_with g (held g log)))
+      omega (arith, all, most, first_few n, limits.few_pivots, length-map (leaves g log) (leaf_with g (population g log)))
 
   -- the prefix of each is of at most so many of the pivots
   pub cells_fit : AllByRecursion (λ (l : Leaf). Fits (length c.pivots) c.levels l.prefix) (cells_of c log)
   cells_fit =
       let g = grid c in
-      all_map (leaf_with g (held g log)) (λ l. Fits (length c.pivots) c.levels l.prefix) (leaves g log)
+      all_map (leaf_with g (population g log)) (λ l. Fits (length c.pivots) c.levels l.prefix) (leaves g log)
       (recursion_from_All (Fits g.pivots g.levels) (leaves g log) (leaves_fit g (is_grid c limits log legal) log (all_may c log legal)))
 
 -- the leaf at a place fits

@@ -15,7 +15,7 @@ use Rattle.mi_base.proofs.SortingLemmas.{sorted_of_same}
 use Rattle.mi_key.specs.declared.entries.Entry.{Entry}
 use Rattle.mi_key.specs.Entries.{Offering, object_of, offering_of}
 use Rattle.mi_key.specs.Keys.{parts_of}
-use Rattle.mi_range.specs.Ranging.{Ranging, Takes, compared}
+use Rattle.mi_range.specs.Ranging.{Ranging, TakesRange, compared_count}
 use Rattle.mi_range.proofs.TakeLemmas.{takes_more}
 use Rattle.mi_rules.specs.Answers.{Measured}
 use Rattle.mi_key.specs.declared.ranges.Interval.{Interval}
@@ -27,7 +27,7 @@ use Rattle.mi_tree.specs.declared.outcomes.Leaf.{Leaf}
 use Rattle.mi_tree.specs.Legal.{LegalLog, cells_of}
 use Rattle.mi_tree.specs.Passing.{lets_through, passes}
 use Rattle.mi_tree.proofs.ListLemmas.{all_any, all_weaker, filter_same}
-use Rattle.mi_plain.specs.Opening.{AreMeasured, offerings, spanned}
+use Rattle.mi_plain.specs.Opening.{AreMeasured, offerings, entries_in_span}
 use Rattle.mi_plain.specs.Plain.{IsKept, object_in}
 use Rattle.mi_plain.proofs.RangeLemmas.{compared_few, few_entries, offered_hits}
 use Rattle.mi_plain.proofs.SpanLemmas.{Covered, all_covered, is_read, one_read}
@@ -59,24 +59,24 @@ opened_more dq radius levels es (m ∷ ls) (suc i) l at b is =
 -- a leaf that passes was read
 pub opened_taken : (m : MetricSpace) (query : List ℤ) (first w v : Ranging) (k n l : ℕ) (dq : List ℕ) (radius levels : ℕ) (es : List (ℕ × Entry)) (ls : List Leaf) (i : ℕ) (leaf : Leaf) (span : Interval)
     → slice_get ls i ≡ Some leaf → passes dq radius leaf ≡ true → ((key : ℕ) → is_within span key ≡ is_in_span dq radius levels leaf.prefix (parts_of key))
-    → Takes m query first k (offerings (opened_entries dq radius levels es (take i ls))) w n → Takes m query w n (offerings (spanned span es)) v l
-    → Takes m query first k (offerings (opened_entries dq radius levels es (take (i + 1) ls))) v l
+    → TakesRange m query first k (offerings (opened_entries dq radius levels es (take i ls))) w n → TakesRange m query w n (offerings (entries_in_span span es)) v l
+    → TakesRange m query first k (offerings (opened_entries dq radius levels es (take (i + 1) ls))) v l
 opened_taken m query first w v k n l dq radius levels es ls i leaf span at is has before next =
     let sofar = opened_entries dq radius levels es (take i ls) in
-    let these : spanned span es ≡ leaf_entries dq radius levels es leaf =
+    let these : entries_in_span span es ≡ leaf_entries dq radius levels es leaf =
     filter_same (λ (e : ℕ × Entry). is_within span e.1.key) (λ (e : ℕ × Entry). is_in_span dq radius levels leaf.prefix (parts_of e.1.key)) es
     (all_any (λ (e : ℕ × Entry). is_within span e.1.key ≡ is_in_span dq radius levels leaf.prefix (parts_of e.1.key)) (λ e. has e.1.key) es) in
-    let all : offerings sofar ++ offerings (spanned span es) ≡ offerings (opened_entries dq radius levels es (take (i + 1) ls)) =
-    sym (map-append (λ (e : ℕ × Entry). offering_of e.1) sofar (spanned span es)) ∙ ap (λ (xs : List (ℕ × Entry)). offerings (sofar ++ xs)) these ∙ ap offerings (sym (opened_more dq radius levels es ls i leaf at true is)) in
-    subst (λ (os : List Offering). Takes m query first k os v l) all (takes_more m query first w v k n l (offerings sofar) (offerings (spanned span es)) before next)
+    let all : offerings sofar ++ offerings (entries_in_span span es) ≡ offerings (opened_entries dq radius levels es (take (i + 1) ls)) =
+    sym (map-append (λ (e : ℕ × Entry). offering_of e.1) sofar (entries_in_span span es)) ∙ ap (λ (xs : List (ℕ × Entry)). offerings (sofar ++ xs)) these ∙ ap offerings (sym (opened_more dq radius levels es ls i leaf at true is)) in
+    subst (λ (os : List Offering). TakesRange m query first k os v l) all (takes_more m query first w v k n l (offerings sofar) (offerings (entries_in_span span es)) before next)
 
 -- and one that doesn't pass wasn't
 pub opened_passed : (m : MetricSpace) (query : List ℤ) (first w : Ranging) (k n : ℕ) (dq : List ℕ) (radius levels : ℕ) (es : List (ℕ × Entry)) (ls : List Leaf) (i : ℕ) (leaf : Leaf)
-    → slice_get ls i ≡ Some leaf → passes dq radius leaf ≡ false → Takes m query first k (offerings (opened_entries dq radius levels es (take i ls))) w n
-    → Takes m query first k (offerings (opened_entries dq radius levels es (take (i + 1) ls))) w n
+    → slice_get ls i ≡ Some leaf → passes dq radius leaf ≡ false → TakesRange m query first k (offerings (opened_entries dq radius levels es (take i ls))) w n
+    → TakesRange m query first k (offerings (opened_entries dq radius levels es (take (i + 1) ls))) w n
 opened_passed m query first w k n dq radius levels es ls i leaf at is before =
     let sofar = opened_entries dq radius levels es (take i ls) in
-    subst (λ (xs : List (ℕ × Entry)). Takes m query first k (offerings xs) w n) (sym (opened_more dq radius levels es ls i leaf at false is ∙ append-nil sofar)) before
+    subst (λ (xs : List (ℕ × Entry)). TakesRange m query first k (offerings xs) w n) (sym (opened_more dq radius levels es ls i leaf at false is ∙ append-nil sofar)) before
 
 -- a sum over them has each entry as often as a leaf is read for it
 opened_sum : (dq : List ℕ) (radius levels : ℕ) (f : ℕ × Entry → ℕ) (es : List (ℕ × Entry)) (ls : List Leaf)
@@ -105,7 +105,7 @@ hits_sum m query radius f (e ∷ es) =
       | false ↦ hits_sum m query radius f es ∙ sym (zero-add (sum_by h es))
     ]) ∙ sym (sum_by-cons h e es)
 
-compared_sum : (dq : List ℕ) (radius : ℕ) (es : List (ℕ × Entry)) → compared dq radius (offerings es) ≡ sum_by (λ e. cond (lets_through radius dq e.1.dists.items) 1 0) es
+compared_sum : (dq : List ℕ) (radius : ℕ) (es : List (ℕ × Entry)) → compared_count dq radius (offerings es) ≡ sum_by (λ e. cond (lets_through radius dq e.1.dists.items) 1 0) es
 compared_sum dq radius [] = refl
 compared_sum dq radius (e ∷ es) =
     sum_by-cons (λ (o : Offering). cond (lets_through radius dq o.dists) 1 0) (offering_of e.1) (offerings es)
@@ -143,8 +143,8 @@ module _ (c : Configuration) (limits : IsWithinLimits c) (log : List LogEvent) (
       ∙ sum_same (λ (e : ℕ × Entry). weigh (is_read dq radius c.levels e) (f e) (cells_of c log)) f es (all_weighed f es kept (all_covered c log es same) none)
 
   -- as many are compared as of all entries
-  same_compared : compared (distances (space_of c) query) radius (offerings (opened_entries (distances (space_of c) query) radius c.levels es (cells_of c log)))
-      ≡ compared (distances (space_of c) query) radius (offerings es)
+  same_compared : compared_count (distances (space_of c) query) radius (offerings (opened_entries (distances (space_of c) query) radius c.levels es (cells_of c log)))
+      ≡ compared_count (distances (space_of c) query) radius (offerings es)
   same_compared =
       let dq = distances (space_of c) query in
       let f : ℕ × Entry → ℕ = λ e. cond (lets_through radius dq e.1.dists.items) 1 0 in
@@ -171,22 +171,22 @@ module _ (c : Configuration) (limits : IsWithinLimits c) (log : List LogEvent) (
 
   -- the query was offered what its leaves have
   module _ (first w : Ranging) (k n : ℕ) (first_dists : first.dists ≡ distances (space_of c) query) (first_radius : first.radius ≡ radius)
-      (taken : Takes (metric_space c) query first k (offerings (opened_entries (distances (space_of c) query) radius c.levels es (cells_of c log))) w n) where
-    these_compared : compared first.dists first.radius (offerings (opened_entries (distances (space_of c) query) radius c.levels es (cells_of c log)))
-        ≡ compared (distances (space_of c) query) radius (offerings es)
+      (taken : TakesRange (metric_space c) query first k (offerings (opened_entries (distances (space_of c) query) radius c.levels es (cells_of c log))) w n) where
+    these_compared : compared_count first.dists first.radius (offerings (opened_entries (distances (space_of c) query) radius c.levels es (cells_of c log)))
+        ≡ compared_count (distances (space_of c) query) radius (offerings es)
     these_compared =
         let os = offerings (opened_entries (distances (space_of c) query) radius c.levels es (cells_of c log)) in
-        ap (λ (ds : List ℕ). compared ds first.radius os) first_dists ∙ ap (λ (r : ℕ). compared (distances (space_of c) query) r os) first_radius ∙ same_compared
+        ap (λ (ds : List ℕ). compared_count ds first.radius os) first_dists ∙ ap (λ (r : ℕ). compared_count (distances (space_of c) query) r os) first_radius ∙ same_compared
 
     -- it counts what it would of all entries
-    pub taken_distances : first.distances ≡ length c.pivots → w.distances ≡ length c.pivots + compared (distances (space_of c) query) radius (offerings es)
+    pub taken_distances : first.distances ≡ length c.pivots → w.distances ≡ length c.pivots + compared_count (distances (space_of c) query) radius (offerings es)
     taken_distances begun =
         let few = compared_few (distances (space_of c) query) radius es in
         let long = few_entries es log same in
         let counted = taken.distances_are (omega (arith, these_compared, few, long, begun, legal.few, limits.updates.1, limits.few_pivots)) in
         omega (arith, counted, these_compared, begun)
 
-    pub taken_steps : n ≡ k + compared (distances (space_of c) query) radius (offerings es)
+    pub taken_steps : n ≡ k + compared_count (distances (space_of c) query) radius (offerings es)
     taken_steps = omega (arith, taken.ticks, these_compared)
 
     -- and keeps the same rows
@@ -201,15 +201,15 @@ module _ (c : Configuration) (limits : IsWithinLimits c) (log : List LogEvent) (
 -- what was offered of all places is offered of all leaves
 pub taken_all : (c : Configuration) (log : List LogEvent) (query : List ℤ) (radius : ℕ) (es : List (ℕ × Entry)) (m : MetricSpace) (dq : List ℕ) (levels i : ℕ) (first w : Ranging) (k n : ℕ)
     → m ≡ metric_space c → dq ≡ distances (space_of c) query → levels ≡ c.levels → length (cells_of c log) ≤ i
-    → Takes m query first k (offerings (opened_entries dq radius levels es (take i (cells_of c log)))) w n
-    → Takes (metric_space c) query first k (offerings (opened_entries (distances (space_of c) query) radius c.levels es (cells_of c log))) w n
+    → TakesRange m query first k (offerings (opened_entries dq radius levels es (take i (cells_of c log)))) w n
+    → TakesRange (metric_space c) query first k (offerings (opened_entries (distances (space_of c) query) radius c.levels es (cells_of c log))) w n
 taken_all c log query radius es m dq levels i first w k n m_is dq_is levels_are whole taken =
     let cells = cells_of c log in
     let ds = distances (space_of c) query in
-    subst (λ (ls : List Leaf). Takes (metric_space c) query first k (offerings (opened_entries ds radius c.levels es ls)) w n) (take_all i cells whole)
-    (subst (λ (l : ℕ). Takes (metric_space c) query first k (offerings (opened_entries ds radius l es (take i cells))) w n) levels_are
-    (subst (λ (xs : List ℕ). Takes (metric_space c) query first k (offerings (opened_entries xs radius levels es (take i cells))) w n) dq_is
-    (subst (λ (x : MetricSpace). Takes x query first k (offerings (opened_entries dq radius levels es (take i cells))) w n) m_is taken)))
+    subst (λ (ls : List Leaf). TakesRange (metric_space c) query first k (offerings (opened_entries ds radius c.levels es ls)) w n) (take_all i cells whole)
+    (subst (λ (l : ℕ). TakesRange (metric_space c) query first k (offerings (opened_entries ds radius l es (take i cells))) w n) levels_are
+    (subst (λ (xs : List ℕ). TakesRange (metric_space c) query first k (offerings (opened_entries xs radius levels es (take i cells))) w n) dq_is
+    (subst (λ (x : MetricSpace). TakesRange x query first k (offerings (opened_entries dq radius levels es (take i cells))) w n) m_is taken)))
 
 -- distances to the settings' pivots by their metric
 pub measured_by : (c : Configuration) (m : MetricSpace) (pivots : List (List ℤ)) (query : List ℤ) (dq : List ℕ) → dq ≡ distances (record { metric = m; pivots = pivots }) query → m ≡ metric_space c → pivots ≡ c.pivots

@@ -12,7 +12,7 @@ use Rattle.mi_key.specs.Clusters.{cluster_of}
 use Rattle.mi_key.specs.Keys.{key_of, parts_of}
 use Rattle.mi_tree.specs.declared.outcomes.Leaf.{Leaf}
 use Rattle.mi_tree.specs.Cells.{leaf_of, leaves}
-use Rattle.mi_tree.specs.Counting.{beginning, held, leaf_with}
+use Rattle.mi_tree.specs.Counting.{leaves_beginning, population, leaf_with}
 use Rattle.mi_tree.specs.Legal.{LegalLog, cells_of}
 use Rattle.mi_tree.proofs.FitLemmas.{Fits, leaves_fit}
 use Rattle.mi_tree.proofs.LeafLemmas.{one_leaf}
@@ -30,15 +30,15 @@ module _ (c : Configuration) (limits : IsWithinLimits c) (log : List LogEvent) (
       let ok = is_grid c limits log legal in
       one_leaf (grid_for c) ((grid_for c).perm v) (ok.perms v).0 (ok.perms v).1 ok log (all_may c log legal)
 
-  pub found_prefix : (leaf : Leaf) → beginning ((grid_for c).perm v) (cells_of c log) ≡ leaf ∷ [] → leaf.prefix ≡ leaf_of (grid_for c) log ((grid_for c).perm v)
+  pub found_prefix : (leaf : Leaf) → leaves_beginning ((grid_for c).perm v) (cells_of c log) ≡ leaf ∷ [] → leaf.prefix ≡ leaf_of (grid_for c) log ((grid_for c).perm v)
   found_prefix leaf found =
       let g = grid_for c in
-      let there : beginning (g.perm v) (cells_of c log) ≡ leaf_with g (held g log) (leaf_of g log (g.perm v)) ∷ [] =
-      sym (filter_map (leaf_with g (held g log)) (λ (l : Leaf). begins l.prefix (g.perm v)) (leaves g log)) ∙ ap (map (leaf_with g (held g log))) one in
-      ap (λ (l : Leaf). l.prefix) (same_one leaf (leaf_with g (held g log) (leaf_of g log (g.perm v))) (sym found ∙ there))
+      let there : leaves_beginning (g.perm v) (cells_of c log) ≡ leaf_with g (population g log) (leaf_of g log (g.perm v)) ∷ [] =
+      sym (filter_map (leaf_with g (population g log)) (λ (l : Leaf). begins l.prefix (g.perm v)) (leaves g log)) ∙ ap (map (leaf_with g (population g log))) one in
+      ap (λ (l : Leaf). l.prefix) (same_one leaf (leaf_with g (population g log) (leaf_of g log (g.perm v))) (sym found ∙ there))
 
   -- and is a prefix of at most so many of the pivots
-  pub found_fits : (leaf : Leaf) → beginning ((grid_for c).perm v) (cells_of c log) ≡ leaf ∷ [] → Fits (length c.pivots) c.levels leaf.prefix
+  pub found_fits : (leaf : Leaf) → leaves_beginning ((grid_for c).perm v) (cells_of c log) ≡ leaf ∷ [] → Fits (length c.pivots) c.levels leaf.prefix
   found_fits leaf found =
       let g = grid_for c in
       let F : List ℕ → Type 0 = Fits (length c.pivots) c.levels in

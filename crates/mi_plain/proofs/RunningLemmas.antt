@@ -11,7 +11,7 @@ use Rattle.mi_base.specs.declared.records.Reply.TheVariants.{Stored, Removed}
 use Rattle.mi_base.specs.Configuration.{Configuration}
 use Rattle.mi_base.specs.History.{Entered, entered, updates_of, live}
 use Rattle.mi_tree.specs.declared.outcomes.Outcome.{Outcome}
-use Rattle.mi_tree.specs.Legal.{EachRight, Legal, LegalLog, NeverFalls, Settled, accepted, accepted_in, cells_of, reach}
+use Rattle.mi_tree.specs.Legal.{EachRight, Legal, LegalLog, NeverFalls, Settled, accepted_update, accepted_in, cells_of, reach}
 use Rattle.mi_tree.specs.InTurn.{AloneInTurn, InTurn, updates_after}
 use Rattle.mi_tree.specs.Right.{Right}
 use Rattle.mi_tree.proofs.ListLemmas.{all_joined}
@@ -55,7 +55,7 @@ ran_entered c old new session op [] [] ran = ap entered ran ∙ sym (append-nil 
 ran_entered c old new session op (o ∷ os) (y ∷ ys) ran =
     ran_entered c ran.0 new session (op + 1) os ys ran.1.1
     ∙ ap (λ es. es ++ accepted_in session (op + 1) os ys) ran.1.0.enters
-    ∙ append_assoc (entered old) (accepted session op o y) (accepted_in session (op + 1) os ys)
+    ∙ append_assoc (entered old) (accepted_update session op o y) (accepted_in session (op + 1) os ys)
 ran_entered c old new session op [] (y ∷ ys) ran = absurd ran
 ran_entered c old new session op (o ∷ os) [] ran = absurd ran
 
@@ -79,7 +79,7 @@ ran_right c old new log session op [] (y ∷ ys) few ran g = absurd ran
 ran_right c old new log session op (o ∷ os) [] few ran g = absurd ran
 
 -- the updates after a reply
-after_one : (c : Configuration) (log : List LogEvent) (session op n : ℕ) (o : Op) (y : Reply) → Right c log session op o y → n + length (accepted session op o y) ≡ updates_after n y
+after_one : (c : Configuration) (log : List LogEvent) (session op n : ℕ) (o : Op) (y : Reply) → Right c log session op o y → n + length (accepted_update session op o y) ≡ updates_after n y
 after_one c log session op n (Insert id v) (Stored k) h = omega arith
 after_one c log session op n (Delete id) (Removed k) h = omega arith
 after_one c log session op n o (Stored k) h = absurd h
@@ -90,8 +90,8 @@ length-answered : (c : Configuration) (old new : List LogEvent) (session op : �
 length-answered c old new session op o y answers =
     length-updates_of new
     ∙ ap length answers.enters
-    ∙ length-append (entered old) (accepted session op o y)
-    ∙ ap (λ n. n + length (accepted session op o y)) (sym (length-updates_of old))
+    ∙ length-append (entered old) (accepted_update session op o y)
+    ∙ ap (λ n. n + length (accepted_update session op o y)) (sym (length-updates_of old))
     ∙ after_one c new session op (length (updates_of old)) o y answers.right
 
 -- each operation found the log as those before it left it
@@ -120,13 +120,13 @@ never_falls c old new log session op from (o ∷ os) (y ∷ ys) ran g le =
 never_falls c old new log session op from [] (y ∷ ys) ran g le = absurd ran
 never_falls c old new log session op from (o ∷ os) [] ran g le = absurd ran
 
-accepted_by : (session op : ℕ) (o : Op) (y : Reply) → AllByRecursion (λ e. e.session ≡ session) (accepted session op o y)
+accepted_by : (session op : ℕ) (o : Op) (y : Reply) → AllByRecursion (λ e. e.session ≡ session) (accepted_update session op o y)
 accepted_by session op (Insert id v) (Stored n) = (refl, tt)
 accepted_by session op (Delete id) (Removed n) = (refl, tt)
 accepted_by session op o y = tt
 
 all_accepted_by : (session op : ℕ) (os : List Op) (ys : List Reply) → AllByRecursion (λ e. e.session ≡ session) (accepted_in session op os ys)
-all_accepted_by session op (o ∷ os) (y ∷ ys) = all_joined _ (accepted session op o y) (accepted_in session (op + 1) os ys) (accepted_by session op o y) (all_accepted_by session (op + 1) os ys)
+all_accepted_by session op (o ∷ os) (y ∷ ys) = all_joined _ (accepted_update session op o y) (accepted_in session (op + 1) os ys) (accepted_by session op o y) (all_accepted_by session (op + 1) os ys)
 all_accepted_by session op [] ys = tt
 all_accepted_by session op (o ∷ os) [] = tt
 

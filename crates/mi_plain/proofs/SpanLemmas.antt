@@ -24,7 +24,7 @@ use Rattle.mi_rules.specs.Spans.{is_in_span}
 use Rattle.mi_rules.proofs.RuleLemmas.{filter_passes, filter_spans}
 use Rattle.mi_tree.specs.declared.outcomes.Leaf.{Leaf}
 use Rattle.mi_tree.specs.Cells.{depth, depth_after, leaf_of, leaves}
-use Rattle.mi_tree.specs.Counting.{belongs, held, in_hull, leaf_with}
+use Rattle.mi_tree.specs.Counting.{belongs, population, in_hull, leaf_with}
 use Rattle.mi_tree.specs.Legal.{LegalLog, cells_of}
 use Rattle.mi_tree.specs.Passing.{lets_through, passes}
 use Rattle.mi_tree.proofs.CoverLemmas.{live_covered}
@@ -58,15 +58,15 @@ same_from a false h k = k refl
 
 -- each leaf that the object belongs to has its distance in its hull
 abbrev pub Covered : Configuration → List LogEvent → ℕ × Entry → Type 0
-Covered c log e = (p : List ℕ) → belongs (grid_for c) p (object_in e) ≡ true → in_hull ((grid_for c).distance e.1.vector) (leaf_with (grid_for c) (held (grid_for c) log) p).hull ≡ true
+Covered c log e = (p : List ℕ) → belongs (grid_for c) p (object_in e) ≡ true → in_hull ((grid_for c).distance e.1.vector) (leaf_with (grid_for c) (population (grid_for c) log) p).hull ≡ true
 
 -- so it is of the entries of a map that has the live objects
 pub all_covered : (c : Configuration) (log : List LogEvent) (es : List (ℕ × Entry)) → SameElements (map object_in es) (live (updates_of log)) → AllByRecursion (Covered c log) es
 all_covered c log es same =
     let g = grid_for c in
-    all_for (λ (p : List ℕ) (e : ℕ × Entry). belongs g p (object_in e) ≡ true → in_hull (g.distance e.1.vector) (leaf_with g (held g log) p).hull ≡ true) es
+    all_for (λ (p : List ℕ) (e : ℕ × Entry). belongs g p (object_in e) ≡ true → in_hull (g.distance e.1.vector) (leaf_with g (population g log) p).hull ≡ true) es
     (λ p.
-    let u : Object → Bool = λ o. in_hull (g.distance o.vector) (leaf_with g (held g log) p).hull in
+    let u : Object → Bool = λ o. in_hull (g.distance o.vector) (leaf_with g (population g log) p).hull in
     all_passed object_in u (belongs g p) es
     (same_all u (filter (belongs g p) (map object_in es)) (filter (belongs g p) (live (updates_of log))) (same_filter (belongs g p) (map object_in es) (live (updates_of log)) same) ∙ live_covered g log p))
 
@@ -116,13 +116,13 @@ module _ (c : Configuration) (limits : IsWithinLimits c) (log : List LogEvent) (
   module _ (through : lets_through radius (distances (space_of c) query) e.1.dists.items ≡ true) (covered : Covered c log e) where
     -- a leaf is read for the entry where it is the entry's
     read_where : (p : List ℕ) → Fits (length c.pivots) c.levels p → (begins p ((grid_for c).perm e.1.vector) ≡ true → p ≡ own)
-        → is_read (distances (space_of c) query) radius c.levels e (leaf_with (grid_for c) (held (grid_for c) log) p) ≡ begins p ((grid_for c).perm e.1.vector)
+        → is_read (distances (space_of c) query) radius c.levels e (leaf_with (grid_for c) (population (grid_for c) log) p) ≡ begins p ((grid_for c).perm e.1.vector)
     read_where p fits only =
         let g = grid_for c in
         let dq = distances (space_of c) query in
         let dists = distances (space_of c) e.1.vector in
         let perm = g.perm e.1.vector in
-        let leaf = leaf_with g (held g log) p in
+        let leaf = leaf_with g (population g log) p in
         let parts = parts_of e.1.key in
         let n = length c.pivots in
         let long : length dq ≡ n = length-map c.pivots (λ (x : List ℤ). (metric_space c).d query x) in
@@ -145,14 +145,14 @@ module _ (c : Configuration) (limits : IsWithinLimits c) (log : List LogEvent) (
         same_from (is_read dq radius c.levels e leaf) (begins p perm) yes no
 
     -- one leaf is read for it
-    pub one_read : filter (is_read (distances (space_of c) query) radius c.levels e) (cells_of c log) ≡ leaf_with (grid_for c) (held (grid_for c) log) own ∷ []
+    pub one_read : filter (is_read (distances (space_of c) query) radius c.levels e) (cells_of c log) ≡ leaf_with (grid_for c) (population (grid_for c) log) own ∷ []
     one_read =
         let g = grid_for c in
         let t : List ℕ → Bool = λ p. begins p (g.perm e.1.vector) in
         let T = is_read (distances (space_of c) query) radius c.levels e in
         let F = Fits (length c.pivots) c.levels in
         let facts = all_two F (λ (p : List ℕ). t p ≡ true → p ≡ own) (leaves g log) all_fit (one_passes t own (leaves g log) one) in
-        let tests : AllByRecursion (λ (p : List ℕ). T (leaf_with g (held g log) p) ≡ t p) (leaves g log) =
-        all_weaker (λ (p : List ℕ). F p × (t p ≡ true → p ≡ own)) (λ (p : List ℕ). T (leaf_with g (held g log) p) ≡ t p) (λ p h. read_where p h.0 h.1) (leaves g log) facts in
-        sym (filter_map (leaf_with g (held g log)) T (leaves g log))
-        ∙ ap (map (leaf_with g (held g log))) (filter_same (λ (p : List ℕ). T (leaf_with g (held g log) p)) t (leaves g log) tests ∙ one)
+        let tests : AllByRecursion (λ (p : List ℕ). T (leaf_with g (population g log) p) ≡ t p) (leaves g log) =
+        all_weaker (λ (p : List ℕ). F p × (t p ≡ true → p ≡ own)) (λ (p : List ℕ). T (leaf_with g (population g log) p) ≡ t p) (λ p h. read_where p h.0 h.1) (leaves g log) facts in
+        sym (filter_map (leaf_with g (population g log)) T (leaves g log))
+        ∙ ap (map (leaf_with g (population g log))) (filter_same (λ (p : List ℕ). T (leaf_with g (population g log) p)) t (leaves g log) tests ∙ one)

@@ -12,7 +12,7 @@ use Rattle.mi_base.specs.Permutations.{begins, permutation_of}
 use Rattle.mi_base.specs.Sorting.{SameElements}
 use Rattle.mi_base.proofs.HistoryLemmas.{entered-append}
 use Rattle.mi_board.specs.declared.actors.ActorState.{ActorState}
-use Rattle.mi_board.specs.Actors.{change, released}
+use Rattle.mi_board.specs.Actors.{change, without_claim}
 use Rattle.mi_board.specs.Boards.{BoardState, with_actor, with_split}
 use Rattle.mi_board.proofs.ActorLemmas.{length-change}
 use Rattle.mi_board.proofs.StepLemmas.{state}
@@ -23,7 +23,7 @@ use Rattle.mi_key.specs.Keys.{FitKey, key_of, parts_of}
 use Rattle.mi_key.proofs.ClusterLemmas.{cluster-small}
 use Rattle.mi_key.proofs.KeyLemmas.{made_of, parts_of-key_of}
 use Rattle.mi_plain.specs.Answering.{GrowsBySplits}
-use Rattle.mi_plain.specs.Plain.{IsKept, IsPlain, child_key, grid_for, leaf_key, moves, object_in, rekeyed}
+use Rattle.mi_plain.specs.Plain.{IsKept, IsPlain, child_key, grid_for, leaf_key, moves, object_in, child_entry}
 use Rattle.mi_plain.proofs.KeyLemmas.{all_below-permutation, distance_fits, id_fits}
 use Rattle.mi_tree.specs.Cells.{IsGrid, depth, leaf_of}
 use Rattle.mi_tree.specs.Legal.{LegalLog, MayFollow}
@@ -106,21 +106,21 @@ module _ (c : Configuration) (limits : IsWithinLimits c) where
         ap (λ (n : ℕ). take n perm) deep
 
     -- an entry of another leaf doesn't move
-    moves_not : (levels : ℕ) (e : Entry) → begins p (permutation_of e.dists.items) ≡ false → rekeyed p levels e ≡ e
+    moves_not : (levels : ℕ) (e : Entry) → begins p (permutation_of e.dists.items) ≡ false → child_entry p levels e ≡ e
     moves_not levels e f =
         let P : Bool → Bool → Type 0 = λ a b. cond (a && (b && false)) (moved p levels e) e ≡ e in
         let none : (a b : Bool) → P a b = λ a b. (elim a as (λ x. P x b) [ true ↦ (elim b as (P true) [ true ↦ refl | false ↦ refl ]) | false ↦ refl ]) in
         rw f (none (nat_le (length p + 1) levels) (nat_le (length p + 1) (length (permutation_of e.dists.items))))
 
     -- an entry of the leaf does
-    moves_so : (levels : ℕ) (e : Entry) → begins p (permutation_of e.dists.items) ≡ true → length p + 1 ≤ levels → length p + 1 ≤ length (permutation_of e.dists.items) → rekeyed p levels e ≡ moved p levels e
+    moves_so : (levels : ℕ) (e : Entry) → begins p (permutation_of e.dists.items) ≡ true → length p + 1 ≤ levels → length p + 1 ≤ length (permutation_of e.dists.items) → child_entry p levels e ≡ moved p levels e
     moves_so levels e t few within =
         let a : nat_le (length p + 1) levels ≡ true = grind (arith, nat_tests) in
         let b : nat_le (length p + 1) (length (permutation_of e.dists.items)) ≡ true = grind (arith, nat_tests) in
         rw (a, b, t) refl
 
     -- each entry stands under the key of its leaf after the split
-    kept_rekeyed : (id : ℕ) (e : Entry) → IsKept c log id e → IsKept c after id (rekeyed p c.levels e)
+    kept_rekeyed : (id : ℕ) (e : Entry) → IsKept c log id e → IsKept c after id (child_entry p c.levels e)
     kept_rekeyed id e k =
         let g = grid_for c in
         let v = e.vector in
@@ -128,7 +128,7 @@ module _ (c : Configuration) (limits : IsWithinLimits c) where
         let low : id < 2 ^ 40 = subst (λ (n : ℕ). n < 2 ^ 40) k.named (id_fits e.key) in
         let near : g.distance v < 2 ^ 27 = subst (λ (n : ℕ). n < 2 ^ 27) k.distance_is (distance_fits e.key) in
         let Keeps : Entry → Type 0 = λ x. IsKept c after id x in
-        let P : Bool → Type 0 = λ b. begins p (g.perm v) ≡ b → Keeps (rekeyed p c.levels e) in
+        let P : Bool → Type 0 = λ b. begins p (g.perm v) ≡ b → Keeps (child_entry p c.levels e) in
         (elim (begins p (g.perm v)) as P [
           | true ↦ λ t.
               let mine : begins p (permutation_of e.dists.items) ≡ true = ap (begins p) perm_is ∙ t in
@@ -166,22 +166,22 @@ module _ (c : Configuration) (limits : IsWithinLimits c) where
               })
         ]) refl
 
-    all_rekeyed : (entries : List (ℕ × Entry)) → AllByRecursion (λ e. IsKept c log e.0 e.1) entries → AllByRecursion {X = ℕ × Entry} (λ e. IsKept c after e.0 e.1) (map (λ e. (e.0, rekeyed p c.levels e.1)) entries)
+    all_rekeyed : (entries : List (ℕ × Entry)) → AllByRecursion (λ e. IsKept c log e.0 e.1) entries → AllByRecursion {X = ℕ × Entry} (λ e. IsKept c after e.0 e.1) (map (λ e. (e.0, child_entry p c.levels e.1)) entries)
     all_rekeyed [] h = tt
     all_rekeyed (e ∷ es) h = (kept_rekeyed e.0 e.1 h.0, all_rekeyed es h.1)
 
 -- a new key is no new vector
-vector_stays : (p : List ℕ) (levels : ℕ) (e : Entry) → (rekeyed p levels e).vector ≡ e.vector
+vector_stays : (p : List ℕ) (levels : ℕ) (e : Entry) → (child_entry p levels e).vector ≡ e.vector
 vector_stays p levels e =
     let P : Bool → Type 0 = λ b. (cond b (moved p levels e) e).vector ≡ e.vector in
     elim (moves p levels e) as P [ true ↦ refl | false ↦ refl ]
 
-objects_stay : (p : List ℕ) (levels : ℕ) (entries : List (ℕ × Entry)) → map object_in (map (λ e. (e.0, rekeyed p levels e.1)) entries) ≡ map object_in entries
+objects_stay : (p : List ℕ) (levels : ℕ) (entries : List (ℕ × Entry)) → map object_in (map (λ e. (e.0, child_entry p levels e.1)) entries) ≡ map object_in entries
 objects_stay p levels [] = refl
 objects_stay p levels (e ∷ es) =
     let v = vector_stays p levels e.1 in
     let rest = objects_stay p levels es in
-    let first : object_in (e.0, rekeyed p levels e.1) ≡ object_in e = ap (λ (w : List ℤ). record { id = e.0; vector = w }) v in
+    let first : object_in (e.0, child_entry p levels e.1) ≡ object_in e = ap (λ (w : List ℤ). record { id = e.0; vector = w }) v in
     cc
 
 module _ (b : BoardState) (pivots : List (List ℤ)) (entries : List (ℕ × Entry)) (is : IsPlain b pivots entries) where
@@ -199,12 +199,12 @@ module _ (b : BoardState) (pivots : List (List ℤ)) (entries : List (ℕ × Ent
   plain_actor f actor = plain_beside (change f actor b.actors) b.retired (length-change f actor b.actors ∙ is.two)
 
   -- a leaf that was split
-  pub plain_split : (actor : ℕ) (p : List ℕ) → LegalLog b.settings b.log → MayFollow b.settings b.log (Split p) → IsPlain (with_split p actor b) pivots (map (λ e. (e.0, rekeyed p b.settings.levels e.1)) entries)
+  pub plain_split : (actor : ℕ) (p : List ℕ) → LegalLog b.settings b.log → MayFollow b.settings b.log (Split p) → IsPlain (with_split p actor b) pivots (map (λ e. (e.0, child_entry p b.settings.levels e.1)) entries)
   plain_split actor p legal may =
       record {
         limits = is.limits;
         pivots_are = is.pivots_are;
-        two = length-change released actor b.actors ∙ is.two;
+        two = length-change without_claim actor b.actors ∙ is.two;
         same = subst (λ (xs : List Object). SameElements xs (live (updates_of (b.log ++ Split p ∷ [])))) (sym (objects_stay p b.settings.levels entries))
             (subst (λ (xs : List Object). SameElements (map object_in entries) xs) (sym (ap live (updates_of_split b.log p))) is.same);
         kept = all_rekeyed b.settings is.limits b.log legal p may entries is.kept;

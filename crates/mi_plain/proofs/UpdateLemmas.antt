@@ -16,7 +16,7 @@ use Rattle.mi_base.specs.History.{Object, is_live, live, live_after, updates_of}
 use Rattle.mi_base.specs.Sorting.{SameElements}
 use Rattle.mi_base.proofs.HistoryLemmas.{same_any}
 use Rattle.mi_board.specs.declared.actors.ActorState.{ActorState}
-use Rattle.mi_board.specs.Actors.{actor_at, change, claims_leaf_of, released, reserving, claiming}
+use Rattle.mi_board.specs.Actors.{actor_at, change, claims_leaf_of, without_claim, with_reserved, with_claim}
 use Rattle.mi_board.specs.Boards.{BoardState, Commits, HasRoom, MayCommit, with_actor, with_event}
 use Rattle.mi_board.proofs.ActorLemmas.{length-change}
 use Rattle.mi_board.proofs.FoundLemmas.{kept_begins}
@@ -27,7 +27,7 @@ use Rattle.mi_key.specs.Keys.{key_of}
 use Rattle.mi_tree.specs.declared.answers.CommitRefusal.{CommitRefusal}
 use Rattle.mi_tree.specs.declared.answers.CommitRefusal.TheVariants as commit
 use Rattle.mi_tree.specs.declared.outcomes.Leaf.{Leaf}
-use Rattle.mi_tree.specs.Counting.{beginning}
+use Rattle.mi_tree.specs.Counting.{leaves_beginning}
 use Rattle.mi_tree.specs.Legal.{cells_of}
 use Rattle.mi_tree.specs.Cells.{Grid, depth_after, leaf_of}
 use Rattle.mi_tree.proofs.LegalLemmas.{live_updated}
@@ -83,26 +83,26 @@ module _ (b : BoardState) (pivots : List (List ℤ)) (entries : List (ℕ × Ent
 
   -- an insert beside its entry, after which the claim ends
   pub plain_inserted : (b' : BoardState) (entries' : List (ℕ × Entry)) (session op id : ℕ) (e : Entry) → is_live id (updates_of b.log) ≡ false → IsKept b.settings b.log id e
-      → b' ≡ with_actor released session (with_event (Made session op (Insert id e.vector)) (reserving false) session b) → entries' ≡ insert_entry nat_cmp entries id e → IsPlain b' pivots entries'
+      → b' ≡ with_actor without_claim session (with_event (Made session op (Insert id e.vector)) (with_reserved false) session b) → entries' ≡ insert_entry nat_cmp entries id e → IsPlain b' pivots entries'
   plain_inserted b' entries' session op id e absent kept is entries_are =
       let none = no_entry id absent in
       let K : ℕ × Entry → Type 0 = λ x. IsKept b.settings b.log x.0 x.1 in
       subst (λ (es : List (ℕ × Entry)). IsPlain b' pivots es) (sym entries_are)
-      (plain_updated b' (insert_entry nat_cmp entries id e) session op (Insert id e.vector) (change released session (change (reserving false) session b.actors))
-      (length-change released session (change (reserving false) session b.actors) ∙ length-change (reserving false) session b.actors ∙ p.two)
+      (plain_updated b' (insert_entry nat_cmp entries id e) session op (Insert id e.vector) (change without_claim session (change (with_reserved false) session b.actors))
+      (length-change without_claim session (change (with_reserved false) session b.actors) ∙ length-change (with_reserved false) session b.actors ∙ p.two)
       is (same_inserted id e entries (live (updates_of b.log)) none p.same) (all_inserted K id e entries none kept p.kept))
 
   -- a delete beside its entry, which the actor claimed before, and after which the claim ends
   pub plain_removed : (b' : BoardState) (entries' : List (ℕ × Entry)) (session op id : ℕ) (prefix : List ℕ)
       → lookup (is_at (nat_cmp id)) (remove_entry (is_at (nat_cmp id)) entries) ≡ None
-      → b' ≡ with_actor released session (with_event (Made session op (Delete id)) (reserving false) session (with_actor (claiming prefix) session b)) → entries' ≡ remove_entry (is_at (nat_cmp id)) entries
+      → b' ≡ with_actor without_claim session (with_event (Made session op (Delete id)) (with_reserved false) session (with_actor (with_claim prefix) session b)) → entries' ≡ remove_entry (is_at (nat_cmp id)) entries
       → IsPlain b' pivots entries'
   plain_removed b' entries' session op id prefix gone is entries_are =
       let K : ℕ × Entry → Type 0 = λ x. IsKept b.settings b.log x.0 x.1 in
-      let claimed = change (claiming prefix) session b.actors in
+      let claimed = change (with_claim prefix) session b.actors in
       subst (λ (es : List (ℕ × Entry)). IsPlain b' pivots es) (sym entries_are)
-      (plain_updated b' (remove_entry (is_at (nat_cmp id)) entries) session op (Delete id) (change released session (change (reserving false) session claimed))
-      (length-change released session (change (reserving false) session claimed) ∙ length-change (reserving false) session claimed ∙ length-change (claiming prefix) session b.actors ∙ p.two)
+      (plain_updated b' (remove_entry (is_at (nat_cmp id)) entries) session op (Delete id) (change without_claim session (change (with_reserved false) session claimed))
+      (length-change without_claim session (change (with_reserved false) session claimed) ∙ length-change (with_reserved false) session claimed ∙ length-change (with_claim prefix) session b.actors ∙ p.two)
       is (same_removed id entries (live (updates_of b.log)) gone p.same) (all_removed K (is_at (nat_cmp id)) entries p.kept))
 
 -- an update isn't refused where the log has room and the leaf isn't crowded
@@ -117,12 +117,12 @@ changed_at f zero (a ∷ actors) lt = refl
 changed_at f (suc i) (a ∷ actors) lt = changed_at f i actors (omega arith)
 
 -- an actor that has reserved, and claims the leaf that was found, may commit
-pub may_commit : (b b' : BoardState) (actor : ℕ) (perm : List ℕ) (leaf : Leaf) → actor < length b.actors → beginning perm (cells_of b.settings b.log) ≡ leaf ∷ [] → (actor_at b.actors actor).reserved ≡ true
-    → b' ≡ with_actor (claiming leaf.prefix) actor b → MayCommit b' actor perm
+pub may_commit : (b b' : BoardState) (actor : ℕ) (perm : List ℕ) (leaf : Leaf) → actor < length b.actors → leaves_beginning perm (cells_of b.settings b.log) ≡ leaf ∷ [] → (actor_at b.actors actor).reserved ≡ true
+    → b' ≡ with_actor (with_claim leaf.prefix) actor b → MayCommit b' actor perm
 may_commit b b' actor perm leaf known one reserved is =
-    let now : actor_at (change (claiming leaf.prefix) actor b.actors) actor ≡ claiming leaf.prefix (actor_at b.actors actor) = changed_at (claiming leaf.prefix) actor b.actors known in
+    let now : actor_at (change (with_claim leaf.prefix) actor b.actors) actor ≡ with_claim leaf.prefix (actor_at b.actors actor) = changed_at (with_claim leaf.prefix) actor b.actors known in
     subst (λ (x : BoardState). MayCommit x actor perm) (sym is) (record {
-      known = omega (arith, known, length-change (claiming leaf.prefix) actor b.actors);
+      known = omega (arith, known, length-change (with_claim leaf.prefix) actor b.actors);
       claims = subst (λ (a : ActorState). IsTrue (claims_leaf_of perm a.claim)) (sym now) (kept_begins perm (cells_of b.settings b.log) leaf one);
       reserved = ap (λ (a : ActorState). a.reserved) now ∙ reserved;
     })
@@ -134,7 +134,7 @@ claims_known (a ∷ actors) zero p h = omega arith
 claims_known (a ∷ actors) (suc i) p h = omega (arith, claims_known actors i p h)
 
 -- an actor that has reserved, and claims the leaf of a permutation, may commit
-pub may_store : (b : BoardState) (actor : ℕ) (perm : List ℕ) (leaf : Leaf) → beginning perm (cells_of b.settings b.log) ≡ leaf ∷ [] → (actor_at b.actors actor).claim ≡ Some leaf.prefix → (actor_at b.actors actor).reserved ≡ true → MayCommit b actor perm
+pub may_store : (b : BoardState) (actor : ℕ) (perm : List ℕ) (leaf : Leaf) → leaves_beginning perm (cells_of b.settings b.log) ≡ leaf ∷ [] → (actor_at b.actors actor).claim ≡ Some leaf.prefix → (actor_at b.actors actor).reserved ≡ true → MayCommit b actor perm
 may_store b actor perm leaf one claims reserved = record {
   known = claims_known b.actors actor leaf.prefix claims;
   claims = subst (λ o. IsTrue (claims_leaf_of perm o)) (sym claims) (kept_begins perm (cells_of b.settings b.log) leaf one);
@@ -142,5 +142,5 @@ may_store b actor perm leaf one claims reserved = record {
 }
 
 -- an actor has reserved once it has
-pub reserved_now : (b b' : BoardState) (actor : ℕ) → actor < length b.actors → b' ≡ with_actor (reserving true) actor b → (actor_at b'.actors actor).reserved ≡ true
-reserved_now b b' actor known is = ap (λ (x : BoardState). (actor_at x.actors actor).reserved) is ∙ ap (λ (a : ActorState). a.reserved) (changed_at (reserving true) actor b.actors known)
+pub reserved_now : (b b' : BoardState) (actor : ℕ) → actor < length b.actors → b' ≡ with_actor (with_reserved true) actor b → (actor_at b'.actors actor).reserved ≡ true
+reserved_now b b' actor known is = ap (λ (x : BoardState). (actor_at x.actors actor).reserved) is ∙ ap (λ (a : ActorState). a.reserved) (changed_at (with_reserved true) actor b.actors known)

@@ -7,7 +7,7 @@ use Rattle.mi_base.specs.declared.records.Reply.TheVariants.{Stored, Present, Ab
 use Rattle.mi_base.specs.Configuration.{Configuration, space_of}
 use Rattle.mi_base.specs.History.{entered, updates_of}
 use Rattle.mi_tree.specs.Right.{Right}
-use Rattle.mi_tree.specs.Legal.{accepted, reach}
+use Rattle.mi_tree.specs.Legal.{accepted_update, reach}
 use Rattle.mi_tree.specs.InTurn.{BeganAt}
 use Rattle.mi_tree.specs.Passing.{kth_distance, reached_objects}
 
@@ -29,7 +29,7 @@ TellsBetween old new y = MatchOption (reach new y) (Unit {0}) (λ n. (length old
 -- in what is left and tells of that time.
 pub record Answers (c : Configuration) (old : List LogEvent) (session op : ℕ) (o : Op) (y : Reply) (new : List LogEvent) : Type 0 where
   pub grows : Grows old new
-  pub enters : entered new ≡ entered old ++ accepted session op o y
+  pub enters : entered new ≡ entered old ++ accepted_update session op o y
   pub right : Right c new session op o y
   pub began : BeganAt (length (updates_of old)) y
   pub tells : TellsBetween old new y

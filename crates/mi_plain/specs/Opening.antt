@@ -13,8 +13,8 @@ abbrev pub offerings : List (ℕ × Entry) → List Offering
 offerings es = map (λ e. offering_of e.1) es
 
 -- the entries whose keys an interval has
-abbrev pub spanned : Interval → List (ℕ × Entry) → List (ℕ × Entry)
-spanned span es = filter (λ e. is_within span e.1.key) es
+abbrev pub entries_in_span : Interval → List (ℕ × Entry) → List (ℕ × Entry)
+entries_in_span span es = filter (λ e. is_within span e.1.key) es
 
 -- each entry's object is one that the metric is for, and its distances to the pivots are measured as the query's are
 abbrev pub AreMeasured : MetricSpace → List ℤ → List ℕ → List (ℕ × Entry) → Type 0

@@ -66,8 +66,8 @@ abbrev pub moves : List ℕ → ℕ → Entry → Bool
 moves split levels e =
     nat_le (length split + 1) levels && (nat_le (length split + 1) (length (permutation_of e.dists.items)) && begins split (permutation_of e.dists.items))
 
-abbrev pub rekeyed : List ℕ → ℕ → Entry → Entry
-rekeyed split levels e =
+abbrev pub child_entry : List ℕ → ℕ → Entry → Entry
+child_entry split levels e =
     cond (moves split levels e) (record { key = child_key split levels e; vector = e.vector; dists = e.dists; birth = e.birth; death = e.death }) e
 
 -- how many steps the splitter can still make at most: each split is swept, and a legal log has few of them

@@ -1,9 +1,9 @@
 //! Entries under the keys of their leaves.
 ghost use Rattle.std.specs.Prelude.{◌≡◌, ◌≤◌, IsTrue, OnOk};
-ghost use Rattle.mi_plain.specs.Opening.{AreMeasured, offerings, spanned};
-ghost use Rattle.mi_plain.specs.Plain.{rekeyed};
-ghost use Rattle.mi_nearest.specs.Nearing.{Takes as TakesNearest};
-ghost use Rattle.mi_range.specs.Ranging.{Takes};
+ghost use Rattle.mi_plain.specs.Opening.{AreMeasured, offerings, entries_in_span};
+ghost use Rattle.mi_plain.specs.Plain.{child_entry};
+ghost use Rattle.mi_nearest.specs.Nearing.{TakesNearest};
+ghost use Rattle.mi_range.specs.Ranging.{TakesRange};
 
 use mi_base::{Id, NoMemory, Prefix, Steps, Vector};
 use mi_key::{Entry, Interval, Key, cluster_number};
@@ -17,7 +17,7 @@ use std::sync::ledger::Ledger;
 /// Puts an entry of a leaf that was split under the key of its child. Other entries keep their keys.
 pub fn rekey(entry: &mut Entry, split: &Prefix, levels: u32)
     requires { levels ≤ 6 }
-    ensures { entry.new ≡ rekeyed split.now levels entry.old }
+    ensures { entry.new ≡ child_entry split.now levels entry.old }
 {
     let perm = permutation(&entry.dists);
     let depth = split.as_slice().len() + 1;
@@ -41,7 +41,7 @@ pub fn offer_span<M: Metric, L: Ledger>(
 ) -> Result<(), NoMemory>
     requires query { IsTrue ((M.space metric.now).fits query.now) }
     requires measured { AreMeasured (M.space metric.now) query.now work.old.dists entries.now.entries }
-    ensures { OnOk result (Takes (M.space metric.now) query.now work.old steps.old (offerings (spanned span.now entries.now.entries)) work.new steps.new) }
+    ensures { OnOk result (TakesRange (M.space metric.now) query.now work.old steps.old (offerings (entries_in_span span.now entries.now.entries)) work.new steps.new) }
 {
     for (_, entry) in entries.iter() {
         if span.has(&entry.key) {
@@ -63,7 +63,7 @@ pub fn offer_nearest<M: Metric, L: Ledger>(
 ) -> Result<(), NoMemory>
     requires query { IsTrue ((M.space metric.now).fits query.now) }
     requires measured { AreMeasured (M.space metric.now) query.now work.old.dists entries.now.entries }
-    ensures { OnOk result (TakesNearest (M.space metric.now) query.now work.old steps.old (offerings (spanned span.now entries.now.entries)) work.new steps.new) }
+    ensures { OnOk result (TakesNearest (M.space metric.now) query.now work.old steps.old (offerings (entries_in_span span.now entries.now.entries)) work.new steps.new) }
 {
     for (_, entry) in entries.iter() {
         if span.has(&entry.key) {

@@ -5,11 +5,11 @@ ghost use Rattle.mi_base.specs.Configuration.{IsWithinLimits, metric_space, spac
 ghost use Rattle.mi_base.specs.History.{end_of, is_live, live, splits_of, updates_of};
 ghost use Rattle.mi_base.specs.Permutations.{distances, key_distance};
 ghost use Rattle.mi_base.specs.Sorting.{SameElements};
-ghost use Rattle.mi_board.specs.Actors.{actor_at, idle, released};
+ghost use Rattle.mi_board.specs.Actors.{actor_at, idle, without_claim};
 ghost use Rattle.mi_board.specs.Boards.{HasRoom, MayCommit, MayInsert, crowded_at, grid_in, opened_board, with_actor, with_split};
 ghost use Rattle.mi_plain.specs.Answering.{Answers, GrowsBySplits, Keeps, Works, WorksInsert, WorksNearest};
 ghost use Rattle.mi_plain.specs.Plain.{IsKept, NoClaims, work_left};
-ghost use Rattle.mi_tree.specs.Counting.{belongs, beginning, placed};
+ghost use Rattle.mi_tree.specs.Counting.{belongs, leaves_beginning, placed_object};
 ghost use Rattle.mi_tree.specs.Legal.{LegalLog, MayFollow, Settled, cells_of};
 
 use crate::entries::{offer_nearest, offer_span, rekey};
@@ -292,7 +292,7 @@ impl Plain {
         ensures grows { GrowsBySplits self.old.log self.new.log }
         ensures reserved { (actor_at self.new.actors SESSION).reserved ≡ (actor_at self.old.actors SESSION).reserved }
         ensures other { (actor_at self.new.actors SPLITTER).claim ≡ None }
-        ensures found { IfOk result (λ leaf. beginning perm.now (cells_of self.new.settings self.new.log) ≡ leaf ∷ []) }
+        ensures found { IfOk result (λ leaf. leaves_beginning perm.now (cells_of self.new.settings self.new.log) ≡ leaf ∷ []) }
         ensures claims { IfOk result (λ leaf. (actor_at self.new.actors SESSION).claim ≡ Some leaf.prefix) }
         ensures free { OnOk result (crowded_at self.new perm.now ≡ false) }
         ensures err { OnErr result (NoClaims self.new) }
@@ -315,7 +315,7 @@ impl Plain {
         requires claims { (actor_at self.old.actors actor).claim ≡ Some leaf.now.prefix }
         requires wanted { MayFollow self.old.settings self.old.log (LogEvent.Split leaf.now.prefix) }
         ensures ok { OnOk result (self.new ≡ with_split leaf.now.prefix actor self.old) }
-        ensures err { OnErr result (self.new ≡ with_actor released actor self.old) }
+        ensures err { OnErr result (self.new ≡ with_actor without_claim actor self.old) }
         ensures pivots { 1 ≤ length self.old.settings.pivots }
         ensures legal { LegalLog self.old.settings self.old.log }
     {
@@ -340,7 +340,7 @@ impl Plain {
 
     /// The live objects of a leaf.
     fn gather(&self, alloc: Global, prefix: &Prefix) -> Result<Vec<Placed>, NoMemory>
-        ensures { IfOk result (λ objects. SameElements objects.items (map (placed (grid_in self.now)) (filter (belongs (grid_in self.now) prefix.now) (live (updates_of self.now.log))))) }
+        ensures { IfOk result (λ objects. SameElements objects.items (map (placed_object (grid_in self.now)) (filter (belongs (grid_in self.now) prefix.now) (live (updates_of self.now.log))))) }
     {
         let mut objects = Vec::new(alloc);
         for entry in self.entries.values() {
@@ -359,7 +359,7 @@ impl Plain {
         requires fits { IsTrue ((metric_space self.now.settings).fits vector.now) }
         requires dists { dists.items ≡ distances (space_of self.now.settings) vector.now }
         requires bound { All (λ d. d ≤ 128000000) dists.items }
-        requires found { beginning ((grid_in self.now).perm vector.now) (cells_of self.now.settings self.now.log) ≡ leaf.now ∷ [] }
+        requires found { leaves_beginning ((grid_in self.now).perm vector.now) (cells_of self.now.settings self.now.log) ≡ leaf.now ∷ [] }
         ensures kept { IsKept self.now.settings self.now.log id result }
         ensures vector { result.vector ≡ vector.now }
         ensures dists { result.dists ≡ dists }

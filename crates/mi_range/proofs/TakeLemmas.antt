@@ -12,14 +12,14 @@ use Rattle.mi_key.specs.Entries.{Offering}
 use Rattle.mi_tree.specs.Passing.{lets_through}
 use Rattle.mi_rules.specs.Answers.{Measured}
 use Rattle.mi_rules.proofs.RuleLemmas.{refused_far}
-use Rattle.mi_range.specs.Ranging.{Ranging, Takes, compared}
+use Rattle.mi_range.specs.Ranging.{Ranging, TakesRange, compared_count}
 
 -- an entry that the filter refuses is no row and no step
 pub take_refused : (m : MetricSpace) → IsMetric m → (query : List ℤ) → IsTrue (m.fits query) → (w : Ranging) (steps : ℕ) (o : Offering) → IsTrue (m.fits o.object.vector)
-    → Measured m query w.dists o.object.vector o.dists → lets_through w.radius w.dists o.dists ≡ false → Takes m query w steps (o ∷ []) w steps
+    → Measured m query w.dists o.object.vector o.dists → lets_through w.radius w.dists o.dists ≡ false → TakesRange m query w steps (o ∷ []) w steps
 take_refused m is query fq w steps o fo me f =
     let far : nat_le (m.d query o.object.vector) w.radius ≡ false = refused_far m is query o.object.vector w.dists o.dists w.radius fq fo me f in
-    let nothing : compared w.dists w.radius (o ∷ []) ≡ 0 = ap (λ b. 0 + cond b 1 0) f in
+    let nothing : compared_count w.dists w.radius (o ∷ []) ≡ 0 = ap (λ b. 0 + cond b 1 0) f in
     record {
       same_dists = refl;
       same_radius = refl;
@@ -35,15 +35,15 @@ hits-append m query radius xs ys =
     ∙ filter-append (λ (row : Row). nat_le row.distance radius) (map (row_of m query) xs) (map (row_of m query) ys)
 
 -- nothing was offered
-pub takes_none : (m : MetricSpace) (query : List ℤ) (w : Ranging) (steps : ℕ) → Takes m query w steps [] w steps
+pub takes_none : (m : MetricSpace) (query : List ℤ) (w : Ranging) (steps : ℕ) → TakesRange m query w steps [] w steps
 takes_none m query w steps = record { same_dists = refl; same_radius = refl; rows_are = sym (append-nil w.rows); distances_are = λ _. omega arith; ticks = omega arith }
 
 -- more was offered
-pub takes_more : (m : MetricSpace) (query : List ℤ) (u v w : Ranging) (k l n : ℕ) (xs ys : List Offering) → Takes m query u k xs v l → Takes m query v l ys w n → Takes m query u k (xs ++ ys) w n
+pub takes_more : (m : MetricSpace) (query : List ℤ) (u v w : Ranging) (k l n : ℕ) (xs ys : List Offering) → TakesRange m query u k xs v l → TakesRange m query v l ys w n → TakesRange m query u k (xs ++ ys) w n
 takes_more m query u v w k l n xs ys a b =
-    let counted : compared u.dists u.radius (xs ++ ys) ≡ compared u.dists u.radius xs + compared u.dists u.radius ys =
+    let counted : compared_count u.dists u.radius (xs ++ ys) ≡ compared_count u.dists u.radius xs + compared_count u.dists u.radius ys =
     sum_by-append (λ (o : Offering). cond (lets_through u.radius u.dists o.dists) 1 0) xs ys in
-    let later : compared v.dists v.radius ys ≡ compared u.dists u.radius ys = ap (λ r. compared v.dists r ys) a.same_radius ∙ ap (λ ds. compared ds u.radius ys) a.same_dists in
+    let later : compared_count v.dists v.radius ys ≡ compared_count u.dists u.radius ys = ap (λ r. compared_count v.dists r ys) a.same_radius ∙ ap (λ ds. compared_count ds u.radius ys) a.same_dists in
     let objects : List Offering → List Object = map (λ (o : Offering). o.object) in
     record {
       same_dists = b.same_dists ∙ a.same_dists;
@@ -54,8 +54,8 @@ takes_more m query u v w k l n xs ys a b =
           ∙ append_assoc u.rows (hits m query u.radius (objects xs)) (hits m query u.radius (objects ys))
           ∙ ap (λ rows. u.rows ++ rows) (sym (hits-append m query u.radius (objects xs) (objects ys)) ∙ ap (hits m query u.radius) (sym (map-append (λ (o : Offering). o.object) xs ys)));
       distances_are = λ few.
-          let p : v.distances ≡ u.distances + compared u.dists u.radius xs = a.distances_are (omega arith) in
-          let q : w.distances ≡ v.distances + compared v.dists v.radius ys = b.distances_are (omega arith) in
+          let p : v.distances ≡ u.distances + compared_count u.dists u.radius xs = a.distances_are (omega arith) in
+          let q : w.distances ≡ v.distances + compared_count v.dists v.radius ys = b.distances_are (omega arith) in
           omega arith;
       ticks = omega (arith, a.ticks, b.ticks);
     }

@@ -16,14 +16,14 @@ pub record Ranging : Type 0 where
   pub spare : ℕ
 
 -- how many of these the filter lets through
-abbrev pub compared : List ℕ → ℕ → List Offering → ℕ
-compared dq radius offered = count_by (λ o. lets_through radius dq o.dists) offered
+abbrev pub compared_count : List ℕ → ℕ → List Offering → ℕ
+compared_count dq radius offered = count_by (λ o. lets_through radius dq o.dists) offered
 
 -- These were offered in this order: the rows of those within the radius were added, and each that the filter lets through was one
 -- step. The distances are counted in 64 bits.
-pub record Takes (m : MetricSpace) (query : List ℤ) (old : Ranging) (steps : ℕ) (offered : List Offering) (new : Ranging) (new_steps : ℕ) : Type 0 where
+pub record TakesRange (m : MetricSpace) (query : List ℤ) (old : Ranging) (steps : ℕ) (offered : List Offering) (new : Ranging) (new_steps : ℕ) : Type 0 where
   pub same_dists : new.dists ≡ old.dists
   pub same_radius : new.radius ≡ old.radius
   pub rows_are : new.rows ≡ old.rows ++ hits m query old.radius (map (λ o. o.object) offered)
-  pub distances_are : old.distances + compared old.dists old.radius offered < 2 ^ 64 → new.distances ≡ old.distances + compared old.dists old.radius offered
-  pub ticks : new_steps ≡ steps + compared old.dists old.radius offered
+  pub distances_are : old.distances + compared_count old.dists old.radius offered < 2 ^ 64 → new.distances ≡ old.distances + compared_count old.dists old.radius offered
+  pub ticks : new_steps ≡ steps + compared_count old.dists old.radius offered

@@ -4,13 +4,13 @@ ghost use Rattle.std.specs.List.{AllByRecursion, filter};
 ghost use Rattle.mi_base.specs.History.{Object, hits};
 ghost use Rattle.mi_base.specs.Space.{MetricSpace};
 ghost use Rattle.mi_key.specs.Entries.{Offering};
-ghost use Rattle.mi_range.specs.Ranging.{Ranging, Takes};
+ghost use Rattle.mi_range.specs.Ranging.{Ranging, TakesRange};
 
 /// To be offered one list and then another is to be offered both.
 pub fn taking_goes_on()
-    ensures none { (m : MetricSpace) (query : List ℤ) (work : Ranging) (steps : ℕ) → Takes m query work steps [] work steps }
+    ensures none { (m : MetricSpace) (query : List ℤ) (work : Ranging) (steps : ℕ) → TakesRange m query work steps [] work steps }
     ensures more { (m : MetricSpace) (query : List ℤ) (first second third : Ranging) (k l n : ℕ) (xs ys : List Offering)
-        → Takes m query first k xs second l → Takes m query second l ys third n → Takes m query first k (xs ++ ys) third n }
+        → TakesRange m query first k xs second l → TakesRange m query second l ys third n → TakesRange m query first k (xs ++ ys) third n }
 {}
 
 /// Where all objects that a test leaves out are farther than the radius, it leaves out no row.

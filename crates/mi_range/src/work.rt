@@ -5,7 +5,7 @@ ghost use Rattle.mi_base.specs.History.{row_cmp};
 ghost use Rattle.mi_base.specs.Sorting.{sorted};
 ghost use Rattle.mi_key.specs.Entries.{offering_of};
 ghost use Rattle.mi_rules.specs.Answers.{Measured};
-ghost use Rattle.mi_range.specs.Ranging.{Takes};
+ghost use Rattle.mi_range.specs.Ranging.{TakesRange};
 
 use mi_base::{Dists, NoMemory, Position, Reply, Row, Rows, Steps, Vector, sort_rows};
 use mi_key::Entry;
@@ -72,7 +72,7 @@ impl RangeWork {
         requires query { IsTrue ((M.space metric.now).fits query.now) }
         requires object { IsTrue ((M.space metric.now).fits entry.now.vector) }
         requires measured { Measured (M.space metric.now) query.now self.old.dists entry.now.vector entry.now.dists.items }
-        ensures taken { Takes (M.space metric.now) query.now self.old steps.old (offering_of entry.now ∷ []) self.new steps.new }
+        ensures taken { TakesRange (M.space metric.now) query.now self.old steps.old (offering_of entry.now ∷ []) self.new steps.new }
         ensures spare { self.old.spare ≤ self.new.spare + 1 }
     {
         if !filter(&self.query, &entry.dists, self.radius) {

@@ -9,7 +9,7 @@ use Rattle.mi_base.specs.History.{live, updates_of}
 use Rattle.mi_base.specs.Permutations.{begins, distances, permutation_of, key_distance}
 use Rattle.mi_base.specs.Space.{Space}
 use Rattle.mi_tree.specs.Cells.{IsGrid, AllMaySplit, depth, grid_of, leaves, leaf_of}
-use Rattle.mi_tree.specs.Counting.{belongs, held, in_hull, leaf_with}
+use Rattle.mi_tree.specs.Counting.{belongs, population, in_hull, leaf_with}
 use Rattle.mi_tree.specs.Passing.{candidates, is_opened, lets_through, passes}
 use Rattle.mi_tree.proofs.CountLemmas.{any_map}
 use Rattle.mi_tree.proofs.CoverLemmas.{live_covered}
@@ -59,10 +59,10 @@ candidates_are space levels few deep log may query r =
     let o = get_or objects k d in
     let dists = distances space o.vector in
     let p = leaf_of g log (g.perm o.vector) in
-    let leaf = leaf_with g (held g log) p in
+    let leaf = leaf_with g (population g log) p in
     let begun : begins p (permutation_of dists) ≡ true = begins_take (depth g log (g.perm o.vector)) (g.perm o.vector) in
     let covered : in_hull (key_distance dists) leaf.hull ≡ true = kept_at (λ x. in_hull (g.distance x.vector) leaf.hull) (belongs g p) objects k d (live_covered g log p) within begun in
     let same : length dq ≡ length dists = length-map space.pivots (λ x. space.metric.d query x) ∙ sym (length-map space.pivots (λ x. space.metric.d o.vector x)) in
-    any_map (λ l. belongs g l.prefix o && passes dq r l) (leaf_with g (held g log)) (leaves g log)
-    ∙ any_of_one (λ q. begins q (g.perm o.vector)) (λ q. passes dq r (leaf_with g (held g log) q)) p (leaves g log)
+    any_map (λ l. belongs g l.prefix o && passes dq r l) (leaf_with g (population g log)) (leaves g log)
+    ∙ any_of_one (λ q. begins q (g.perm o.vector)) (λ q. passes dq r (leaf_with g (population g log) q)) p (leaves g log)
     (one_leaf g (g.perm o.vector) (ok.perms o.vector).0 (ok.perms o.vector).1 ok log may) (filter_passes dq dists r leaf same through begun covered))

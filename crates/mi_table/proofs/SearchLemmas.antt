@@ -6,7 +6,7 @@ use Rattle.std.proofs.lemmas.Bool.{cases_lt}
 use Rattle.std.proofs.lemmas.List.Folds.{find-append}
 use Rattle.mi_table.specs.declared.faults.TableFault.{TableFault}
 use Rattle.mi_table.specs.declared.faults.TableFault.TheVariants.{Memory}
-use Rattle.mi_table.specs.Faults.{has_fault, each, first_among, first_fault, lengths, diagonal, zeros, asymmetries, triangles}
+use Rattle.mi_table.specs.Faults.{has_fault, faults_of_each, first_among, first_fault, lengths, diagonal, zeros, asymmetries, triangles}
 use Rattle.mi_table.specs.Laws.{one_here}
 
 both_none : {X : Type 0} (a b : Option X) → a ≡ None → b ≡ None → option_or a b ≡ None
@@ -42,25 +42,25 @@ module _ (rows : List (List ℕ)) where
   among_second xs ys fault h k = find-append (has_fault rows) xs ys ∙ second_some (first_among rows xs) (first_among rows ys) fault h k
 
   -- one number more without a fault
-  pub each_more : (f : ℕ → List TableFault) (i : ℕ) → first_among rows (each i f) ≡ None → first_among rows (f i) ≡ None → first_among rows (each (i + 1) f) ≡ None
-  each_more f i h k = rw (add-one i) (among_neither (each i f) (f i) h k)
+  pub each_more : (f : ℕ → List TableFault) (i : ℕ) → first_among rows (faults_of_each i f) ≡ None → first_among rows (f i) ≡ None → first_among rows (faults_of_each (i + 1) f) ≡ None
+  each_more f i h k = rw (add-one i) (among_neither (faults_of_each i f) (f i) h k)
 
   -- the first fault is that of the first number that has one
-  pub each_here : (f : ℕ → List TableFault) (n i : ℕ) (fault : TableFault) → i < n → first_among rows (each i f) ≡ None → first_among rows (f i) ≡ Some fault → first_among rows (each n f) ≡ Some fault
+  pub each_here : (f : ℕ → List TableFault) (n i : ℕ) (fault : TableFault) → i < n → first_among rows (faults_of_each i f) ≡ None → first_among rows (f i) ≡ Some fault → first_among rows (faults_of_each n f) ≡ Some fault
   each_here f zero i fault lt h k = absurd (omega arith)
   each_here f (suc n) i fault lt h k =
       elim (cases_lt i n) [
-        | inl below ↦ among_first (each n f) (f n) fault (each_here f n i fault below h k)
+        | inl below ↦ among_first (faults_of_each n f) (f n) fault (each_here f n i fault below h k)
         | inr above ↦
             let e : n ≡ i = omega arith in
-            among_second (each n f) (f n) fault (ap (λ m. first_among rows (each m f)) e ∙ h) (ap (λ m. first_among rows (f m)) e ∙ k)
+            among_second (faults_of_each n f) (f n) fault (ap (λ m. first_among rows (faults_of_each m f)) e ∙ h) (ap (λ m. first_among rows (f m)) e ∙ k)
       ]
 
   -- the same for one possible fault of each number
-  pub one_more : (f : ℕ → TableFault) (i : ℕ) → first_among rows (each i (λ j. f j ∷ [])) ≡ None → has_fault rows (f i) ≡ false → first_among rows (each (i + 1) (λ j. f j ∷ [])) ≡ None
+  pub one_more : (f : ℕ → TableFault) (i : ℕ) → first_among rows (faults_of_each i (λ j. f j ∷ [])) ≡ None → has_fault rows (f i) ≡ false → first_among rows (faults_of_each (i + 1) (λ j. f j ∷ [])) ≡ None
   one_more f i h k = each_more (λ j. f j ∷ []) i h (rw k refl)
 
-  pub one_first : (f : ℕ → TableFault) (n i : ℕ) → i < n → first_among rows (each i (λ j. f j ∷ [])) ≡ None → has_fault rows (f i) ≡ true → first_among rows (each n (λ j. f j ∷ [])) ≡ Some (f i)
+  pub one_first : (f : ℕ → TableFault) (n i : ℕ) → i < n → first_among rows (faults_of_each i (λ j. f j ∷ [])) ≡ None → has_fault rows (f i) ≡ true → first_among rows (faults_of_each n (λ j. f j ∷ [])) ≡ Some (f i)
   one_first f n i lt h k = each_here (λ j. f j ∷ []) n i (f i) lt h (one_here rows (f i) k)
 
   -- want of memory is no fault of a table

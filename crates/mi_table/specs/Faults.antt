@@ -17,37 +17,37 @@ has_fault rows (Triangle i j k) = nat_lt (table_entry rows i j + table_entry row
 has_fault rows Memory = false
 
 -- those of 0, then those of 1, up to those of n - 1
-abbrev pub each : ℕ → (ℕ → List TableFault) → List TableFault
-each zero f = []
-each (suc n) f = each n f ++ f n
+abbrev pub faults_of_each : ℕ → (ℕ → List TableFault) → List TableFault
+faults_of_each zero f = []
+faults_of_each (suc n) f = faults_of_each n f ++ f n
 
 -- the faults of one kind that a table of n rows may have, by their places in dictionary order
 abbrev pub lengths : ℕ → List TableFault
-lengths n = each n (λ row. NotSquare row ∷ [])
+lengths n = faults_of_each n (λ row. NotSquare row ∷ [])
 
 abbrev pub diagonal : ℕ → List TableFault
-diagonal n = each n (λ i. Diagonal i ∷ [])
+diagonal n = faults_of_each n (λ i. Diagonal i ∷ [])
 
 abbrev pub zeros_from : ℕ → ℕ → List TableFault
-zeros_from n i = each n (λ j. Zero i j ∷ [])
+zeros_from n i = faults_of_each n (λ j. Zero i j ∷ [])
 
 abbrev pub zeros : ℕ → List TableFault
-zeros n = each n (zeros_from n)
+zeros n = faults_of_each n (zeros_from n)
 
 abbrev pub asymmetries_from : ℕ → ℕ → List TableFault
-asymmetries_from n i = each n (λ j. Asymmetric i j ∷ [])
+asymmetries_from n i = faults_of_each n (λ j. Asymmetric i j ∷ [])
 
 abbrev pub asymmetries : ℕ → List TableFault
-asymmetries n = each n (asymmetries_from n)
+asymmetries n = faults_of_each n (asymmetries_from n)
 
 abbrev pub triangles_through : ℕ → ℕ → ℕ → List TableFault
-triangles_through n i j = each n (λ k. Triangle i j k ∷ [])
+triangles_through n i j = faults_of_each n (λ k. Triangle i j k ∷ [])
 
 abbrev pub triangles_from : ℕ → ℕ → List TableFault
-triangles_from n i = each n (triangles_through n i)
+triangles_from n i = faults_of_each n (triangles_through n i)
 
 abbrev pub triangles : ℕ → List TableFault
-triangles n = each n (triangles_from n)
+triangles n = faults_of_each n (triangles_from n)
 
 -- the first of these faults that the table has
 abbrev pub first_among : List (List ℕ) → List TableFault → Option TableFault

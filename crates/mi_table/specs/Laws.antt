@@ -10,7 +10,7 @@ use Rattle.mi_base.specs.Configuration.{IsTable, IsTableRow}
 use Rattle.mi_base.specs.Space.{IsMetric, is_row, table_entry, table_metric}
 use Rattle.mi_table.specs.declared.faults.TableFault.{TableFault}
 use Rattle.mi_table.specs.declared.faults.TableFault.TheVariants.{NotSquare, Diagonal, Zero, Asymmetric, Triangle}
-use Rattle.mi_table.specs.Faults.{has_fault, each, lengths, diagonal, zeros, zeros_from, asymmetries, asymmetries_from, triangles, triangles_from, triangles_through, first_among, first_fault, IsSquare}
+use Rattle.mi_table.specs.Faults.{has_fault, faults_of_each, lengths, diagonal, zeros, zeros_from, asymmetries, asymmetries_from, triangles, triangles_from, triangles_through, first_among, first_fault, IsSquare}
 
 -- no entry is above 128,000,000
 value_small : (row : List ℕ) (j : ℕ) → AllByRecursion (λ value. value ≤ 128000000) row → slice_index_or row j 0 ≤ 128000000
@@ -44,12 +44,12 @@ module _ (rows : List (List ℕ)) where
   among_right xs ys h = right_none (first_among rows xs) (first_among rows ys) (sym (find-append (has_fault rows) xs ys) ∙ h)
 
   -- no fault of the numbers below n: none of each
-  pub each_none : (f : ℕ → List TableFault) (n i : ℕ) → i < n → first_among rows (each n f) ≡ None → first_among rows (f i) ≡ None
+  pub each_none : (f : ℕ → List TableFault) (n i : ℕ) → i < n → first_among rows (faults_of_each n f) ≡ None → first_among rows (f i) ≡ None
   each_none f zero i lt h = absurd (omega arith)
   each_none f (suc n) i lt h =
       elim (cases_lt i n) [
-        | inl below ↦ each_none f n i below (among_left (each n f) (f n) h)
-        | inr above ↦ let e : n ≡ i = omega arith in ap (λ k. first_among rows (f k)) (sym e) ∙ among_right (each n f) (f n) h
+        | inl below ↦ each_none f n i below (among_left (faults_of_each n f) (f n) h)
+        | inr above ↦ let e : n ≡ i = omega arith in ap (λ k. first_among rows (f k)) (sym e) ∙ among_right (faults_of_each n f) (f n) h
       ]
 
   -- one fault alone

@@ -14,8 +14,8 @@ use Rattle.mi_base.proofs.PrefixLemmas.{are_different-append}
 use Rattle.mi_tree.specs.declared.outcomes.Leaf.{Leaf}
 use Rattle.mi_tree.specs.declared.counts.Placed.{Placed}
 use Rattle.mi_tree.specs.Cells.{children, same_cell, split_cell, first_leaves}
-use Rattle.mi_tree.specs.Counting.{widen, added, removed, leaf_among, parted, beginning}
-use Rattle.mi_tree.specs.Catalogs.{prefixes, Partition, IsCatalog}
+use Rattle.mi_tree.specs.Counting.{widen, with_added, with_removed, leaf_among, split_leaf, leaves_beginning}
+use Rattle.mi_tree.specs.Catalog.{prefixes_of, Partition, IsCatalog}
 use Rattle.mi_tree.proofs.ListLemmas.{filter_map, map_twice, all_any, map-flat, flat_same}
 use Rattle.mi_tree.proofs.LeafLemmas.{perm_is, split_one, first_one, begins_is}
 use Rattle.mi_tree.proofs.OrderLemmas.{split_keeps_order, first_leaves_in_order}
@@ -34,19 +34,19 @@ prefix_more p i h short low new =
     and_from _ _ few (and_from _ _ below apart)
 
 -- the number of leaves that begin a permutation is that of prefixes
-pub beginning_counts : (perm : List ℕ) (ls : List Leaf) → length (beginning perm ls) ≡ length (filter (λ p. begins p perm) (prefixes ls))
-beginning_counts perm ls = sym (length-map (beginning perm ls) (λ l. l.prefix)) ∙ ap length (filter_map (λ (l : Leaf). l.prefix) (λ p. begins p perm) ls)
+pub beginning_counts : (perm : List ℕ) (ls : List Leaf) → length (leaves_beginning perm ls) ≡ length (filter (λ p. begins p perm) (prefixes_of ls))
+beginning_counts perm ls = sym (length-map (leaves_beginning perm ls) (λ l. l.prefix)) ∙ ap length (filter_map (λ (l : Leaf). l.prefix) (λ p. begins p perm) ls)
 
 -- the prefix at a place is that of the leaf there
-pub prefix_at : (ls : List Leaf) (k : ℕ) (l : Leaf) → k < length ls → l ≡ get_or ls k l → get_or (prefixes ls) k [] ≡ l.prefix
+pub prefix_at : (ls : List Leaf) (k : ℕ) (l : Leaf) → k < length ls → l ≡ get_or ls k l → get_or (prefixes_of ls) k [] ≡ l.prefix
 prefix_at [] k l lt at = absurd (omega arith)
 prefix_at (x ∷ ls) zero l lt at = ap (λ (y : Leaf). y.prefix) (sym at)
 prefix_at (x ∷ ls) (suc k) l lt at = prefix_at ls k l (omega arith) at
 
 -- a write that keeps the prefix keeps the prefixes
-pub prefixes_kept : (ls : List Leaf) (k : ℕ) (old new : Leaf) → k < length ls → old ≡ get_or ls k old → new.prefix ≡ old.prefix → prefixes (slice_set ls k new) ≡ prefixes ls
+pub prefixes_kept : (ls : List Leaf) (k : ℕ) (old new : Leaf) → k < length ls → old ≡ get_or ls k old → new.prefix ≡ old.prefix → prefixes_of (slice_set ls k new) ≡ prefixes_of ls
 prefixes_kept [] k old new lt at e = absurd (omega arith)
-prefixes_kept (x ∷ ls) zero old new lt at e = ap (λ (q : List ℕ). q ∷ prefixes ls) (e ∙ ap (λ (y : Leaf). y.prefix) at)
+prefixes_kept (x ∷ ls) zero old new lt at e = ap (λ (q : List ℕ). q ∷ prefixes_of ls) (e ∙ ap (λ (y : Leaf). y.prefix) at)
 prefixes_kept (x ∷ ls) (suc k) old new lt at e = ap (λ ps. x.prefix ∷ ps) (prefixes_kept ls k old new (omega arith) at e)
 
 -- what is said of the element at a place holds of it
@@ -56,40 +56,40 @@ some_at P (x ∷ xs) zero d lt h = h
 some_at P (x ∷ xs) (suc k) d lt h = some_at P xs k d (omega arith) h
 
 -- a prefix that begins a permutation is that of a leaf
-some_prefix : (perm : List ℕ) (ls : List Leaf) (k : ℕ) → k < length ls → begins (get_or (prefixes ls) k []) perm ≡ true → IfSome (slice_get ls k) (λ l. begins l.prefix perm ≡ true)
+some_prefix : (perm : List ℕ) (ls : List Leaf) (k : ℕ) → k < length ls → begins (get_or (prefixes_of ls) k []) perm ≡ true → IfSome (slice_get ls k) (λ l. begins l.prefix perm ≡ true)
 some_prefix perm [] k lt h = absurd (omega arith)
 some_prefix perm (x ∷ ls) zero lt h = h
 some_prefix perm (x ∷ ls) (suc k) lt h = some_prefix perm ls k (omega arith) h
 
 -- where a search ends the leaf stands
-pub found_at : (perm : List ℕ) (ls : List Leaf) (low high : ℕ) → high ≤ low + 1 → Between (prefixes ls) perm low high → length (beginning perm ls) ≡ 1
+pub found_at : (perm : List ℕ) (ls : List Leaf) (low high : ℕ) → high ≤ low + 1 → Between (prefixes_of ls) perm low high → length (leaves_beginning perm ls) ≡ 1
     → IfSome (slice_get ls low) (λ l. begins l.prefix perm ≡ true)
 found_at perm ls low high short within one =
-    let some = some_passes (λ p. begins p perm) (prefixes ls) [] (sym (beginning_counts perm ls) ∙ one) in
+    let some = some_passes (λ p. begins p perm) (prefixes_of ls) [] (sym (beginning_counts perm ls) ∙ one) in
     let b = within some.0 some.1 some.2 in
     let e : some.0 ≡ low = omega (arith, b.0, b.1, short) in
     let lt : low < length ls = omega (arith, some.1, length-map ls (λ (l : Leaf). l.prefix), e) in
-    some_prefix perm ls low lt (subst (λ (i : ℕ). begins (get_or (prefixes ls) i []) perm ≡ true) e some.2)
+    some_prefix perm ls low lt (subst (λ (i : ℕ). begins (get_or (prefixes_of ls) i []) perm ≡ true) e some.2)
 
 -- what stands where the leaf stands is the leaf
-pub located : (perm : List ℕ) (ls : List Leaf) (k : ℕ) (l : Leaf) → k < length ls → l ≡ get_or ls k l → IfSome (slice_get ls k) (λ x. begins x.prefix perm ≡ true) → length (beginning perm ls) ≡ 1
-    → beginning perm ls ≡ l ∷ []
+pub located : (perm : List ℕ) (ls : List Leaf) (k : ℕ) (l : Leaf) → k < length ls → l ≡ get_or ls k l → IfSome (slice_get ls k) (λ x. begins x.prefix perm ≡ true) → length (leaves_beginning perm ls) ≡ 1
+    → leaves_beginning perm ls ≡ l ∷ []
 located perm ls k l lt at found one =
     only_one (λ (x : Leaf). begins x.prefix perm) ls k l lt (some_at (λ x. begins x.prefix perm ≡ true) ls k l lt found) one ∙ ap (λ (x : Leaf). x ∷ []) (sym at)
 
 -- an object is added to the leaf that it belongs to
-pub added_in : (perm : List ℕ) (d : ℕ) (l : Leaf) → begins l.prefix perm ≡ true → added perm d l ≡ record { prefix = l.prefix; count = l.count + 1; hull = widen d l.hull }
+pub added_in : (perm : List ℕ) (d : ℕ) (l : Leaf) → begins l.prefix perm ≡ true → with_added perm d l ≡ record { prefix = l.prefix; count = l.count + 1; hull = widen d l.hull }
 added_in perm d l h = rw h refl
 
 -- an object changes no other leaf
-pub added_out : (perm : List ℕ) (d : ℕ) (l : Leaf) → begins l.prefix perm ≡ false → added perm d l ≡ l
+pub added_out : (perm : List ℕ) (d : ℕ) (l : Leaf) → begins l.prefix perm ≡ false → with_added perm d l ≡ l
 added_out perm d l h = rw h refl
 
 -- an object is taken out of no other leaf
-removed_out : (perm : List ℕ) (l : Leaf) → begins l.prefix perm ≡ false → removed perm l ≡ l
+removed_out : (perm : List ℕ) (l : Leaf) → begins l.prefix perm ≡ false → with_removed perm l ≡ l
 removed_out perm l h = rw h refl
 
-module _ (perm : List ℕ) (ls : List Leaf) (k : ℕ) (old new : Leaf) (lt : k < length ls) (at : old ≡ get_or ls k old) (found : IfSome (slice_get ls k) (λ x. begins x.prefix perm ≡ true)) (one : length (beginning perm ls) ≡ 1) where
+module _ (perm : List ℕ) (ls : List Leaf) (k : ℕ) (old new : Leaf) (lt : k < length ls) (at : old ≡ get_or ls k old) (found : IfSome (slice_get ls k) (λ x. begins x.prefix perm ≡ true)) (one : length (leaves_beginning perm ls) ≡ 1) where
   -- the leaf that was found begins the permutation
   there : begins old.prefix perm ≡ true
   there = subst (λ (x : Leaf). begins x.prefix perm ≡ true) (sym at) (some_at (λ x. begins x.prefix perm ≡ true) ls k old lt found)
@@ -101,12 +101,12 @@ module _ (perm : List ℕ) (ls : List Leaf) (k : ℕ) (old new : Leaf) (lt : k <
       ∙ map_one (λ (x : Leaf). begins x.prefix perm) f keep ls k old lt (subst (λ (x : Leaf). begins x.prefix perm ≡ true) at there) one
 
   -- one more object in the leaf that was found
-  pub added_at : (d : ℕ) → new ≡ record { prefix = old.prefix; count = old.count + 1; hull = widen d old.hull } → slice_set ls k new ≡ map (added perm d) ls
-  added_at d is = write_one (added perm d) (added_out perm d) (is ∙ sym (added_in perm d old there))
+  pub added_at : (d : ℕ) → new ≡ record { prefix = old.prefix; count = old.count + 1; hull = widen d old.hull } → slice_set ls k new ≡ map (with_added perm d) ls
+  added_at d is = write_one (with_added perm d) (added_out perm d) (is ∙ sym (added_in perm d old there))
 
   -- one object less in it
-  pub removed_at : new ≡ record { prefix = old.prefix; count = old.count - 1; hull = old.hull } → slice_set ls k new ≡ map (removed perm) ls
-  removed_at is = write_one (removed perm) (removed_out perm) (is ∙ (rw there refl))
+  pub removed_at : new ≡ record { prefix = old.prefix; count = old.count - 1; hull = old.hull } → slice_set ls k new ≡ map (with_removed perm) ls
+  removed_at is = write_one (with_removed perm) (removed_out perm) (is ∙ (rw there refl))
 
 -- a range that is longer by one
 range_more : (a n : ℕ) → range_with_len a (suc n) ≡ range_with_len a n ++ (a + n) ∷ []
@@ -138,17 +138,17 @@ pub child_not : (start items : List Leaf) (p : List ℕ) (objects : List Placed)
 child_not start items p objects i was new = was ∙ ap (λ xs. start ++ map (leaf_among objects) xs) (sym (child_more i p ∙ (rw new (append-nil (children i p)))))
 
 -- leaves of given prefixes have them
-pub prefixes_among : (objects : List Placed) (ps : List (List ℕ)) → prefixes (map (leaf_among objects) ps) ≡ ps
+pub prefixes_among : (objects : List Placed) (ps : List (List ℕ)) → prefixes_of (map (leaf_among objects) ps) ≡ ps
 prefixes_among objects ps = map_twice (λ (l : Leaf). l.prefix) (leaf_among objects) ps ∙ map-id ps
 
 -- the prefixes after a split
-pub prefixes_parted : (n : ℕ) (p : List ℕ) (objects : List Placed) (ls : List Leaf) → prefixes (flat_map (parted n p objects) ls) ≡ flat_map (split_cell n p) (prefixes ls)
+pub prefixes_parted : (n : ℕ) (p : List ℕ) (objects : List Placed) (ls : List Leaf) → prefixes_of (flat_map (split_leaf n p objects) ls) ≡ flat_map (split_cell n p) (prefixes_of ls)
 prefixes_parted n p objects ls =
-    let one : (l : Leaf) → prefixes (parted n p objects l) ≡ split_cell n p l.prefix = λ l.
-    let P : Bool → Type 0 = λ b. prefixes (cond b (map (leaf_among objects) (children n p)) (l ∷ [])) ≡ cond b (children n p) (l.prefix ∷ []) in
+    let one : (l : Leaf) → prefixes_of (split_leaf n p objects l) ≡ split_cell n p l.prefix = λ l.
+    let P : Bool → Type 0 = λ b. prefixes_of (cond b (map (leaf_among objects) (children n p)) (l ∷ [])) ≡ cond b (children n p) (l.prefix ∷ []) in
     elim (same_cell p l.prefix) as P [ true ↦ prefixes_among objects (children n p) | false ↦ refl ] in
-    map-flat (λ (l : Leaf). l.prefix) (parted n p objects) ls
-    ∙ flat_same (λ (l : Leaf). prefixes (parted n p objects l)) (λ l. split_cell n p l.prefix) ls (all_any _ one ls)
+    map-flat (λ (l : Leaf). l.prefix) (split_leaf n p objects) ls
+    ∙ flat_same (λ (l : Leaf). prefixes_of (split_leaf n p objects l)) (λ l. split_cell n p l.prefix) ls (all_any _ one ls)
     ∙ sym (flat_map-map (split_cell n p) (λ (l : Leaf). l.prefix) ls)
 
 -- what begins a list is not longer

@@ -10,7 +10,7 @@ use Rattle.mi_base.specs.declared.records.LogEvent.{LogEvent}
 use Rattle.mi_base.specs.declared.records.LogEvent.TheVariants.{Update as Made, Split}
 use Rattle.mi_base.specs.History.{Object, live, updates_of}
 use Rattle.mi_tree.specs.Cells.{Grid}
-use Rattle.mi_tree.specs.Counting.{widen, hull_of, in_hull, Held, belongs, held_after, held, leaf_with}
+use Rattle.mi_tree.specs.Counting.{widen, hull_of, in_hull, Population, belongs, population_after, population, leaf_with}
 use Rattle.mi_tree.proofs.CatLemmas.{held_live}
 
 -- a widened interval has its number
@@ -60,8 +60,8 @@ all_both t u v imp (x ∷ xs) h k =
     and_from (v x) (list_all v xs) (imp x a.0 b.0) (all_both t u v imp xs a.1 b.1)
 
 -- what holds of all that were put in holds of the live ones
-abbrev PutLive : Held → Type 0
-PutLive h = (t : Object → Bool) → list_all t h.put ≡ true → list_all t h.live ≡ true
+abbrev PutLive : Population → Type 0
+PutLive h = (t : Object → Bool) → list_all t h.put_in ≡ true → list_all t h.live ≡ true
 
 -- what holds inside and outside holds
 either : (b t : Bool) → (not (not b) || t) ≡ true → (not b || t) ≡ true → t ≡ true
@@ -74,35 +74,35 @@ weaker_or true t h = h
 weaker_or false t h = refl
 
 -- one event keeps that
-put_live_after : (g : Grid) (h : Held) (e : LogEvent) → PutLive h → PutLive (held_after g h e)
+put_live_after : (g : Grid) (h : Population) (e : LogEvent) → PutLive h → PutLive (population_after g h e)
 put_live_after g h (Made session op (Insert id vector)) all t k =
     let o : Object = record { id = id; vector = vector } in
-    let parts = and_parts (t o) (list_all t h.put) k in
+    let parts = and_parts (t o) (list_all t h.put_in) k in
     and_from (t o) (list_all t h.live) parts.0 (all t parts.1)
 put_live_after g h (Made session op (Delete id)) all t k =
     all_of_kept t (λ o. not (nat_eq o.id id)) h.live ∙ all_kept t (λ o. not (not (nat_eq o.id id)) || t o) (λ o m. weaker_or (not (nat_eq o.id id)) (t o) m) h.live (all t k)
 put_live_after g h (Split p) all t k =
-    let parts = and_parts _ _ (sym (list_all-append t (filter (λ o. not (belongs g p o)) h.put) (filter (belongs g p) h.live)) ∙ k) in
-    let outer = all (λ o. not (not (belongs g p o)) || t o) (sym (all_of_kept t (λ o. not (belongs g p o)) h.put) ∙ parts.0) in
+    let parts = and_parts _ _ (sym (list_all-append t (filter (λ o. not (belongs g p o)) h.put_in) (filter (belongs g p) h.live)) ∙ k) in
+    let outer = all (λ o. not (not (belongs g p o)) || t o) (sym (all_of_kept t (λ o. not (belongs g p o)) h.put_in) ∙ parts.0) in
     let inner = sym (all_of_kept t (belongs g p) h.live) ∙ parts.1 in
     all_both (λ o. not (not (belongs g p o)) || t o) (λ o. not (belongs g p o) || t o) t (λ o a b. either (belongs g p o) (t o) a b) h.live outer inner
 
 -- a log keeps that
-put_live_from : (g : Grid) (h : Held) (log : List LogEvent) → PutLive h → PutLive (fold (held_after g) h log)
+put_live_from : (g : Grid) (h : Population) (log : List LogEvent) → PutLive h → PutLive (fold (population_after g) h log)
 put_live_from g h [] all = all
-put_live_from g h (e ∷ log) all = put_live_from g (held_after g h e) log (put_live_after g h e all)
+put_live_from g h (e ∷ log) all = put_live_from g (population_after g h e) log (put_live_after g h e all)
 
 -- what holds of all that were put in holds of the live ones
-put_live : (g : Grid) (log : List LogEvent) → PutLive (held g log)
-put_live g log = put_live_from g (record { live = []; put = [] }) log (λ t k. refl)
+put_live : (g : Grid) (log : List LogEvent) → PutLive (population g log)
+put_live g log = put_live_from g (record { live = []; put_in = [] }) log (λ t k. refl)
 
 -- the hull of a leaf has each that was put into it
-pub put_covered : (g : Grid) (log : List LogEvent) (p : List ℕ) → list_all (λ o. in_hull (g.distance o.vector) (leaf_with g (held g log) p).hull) (filter (belongs g p) (held g log).put) ≡ true
-put_covered g log p = hull_covers (λ (o : Object). g.distance o.vector) (filter (belongs g p) (held g log).put)
+pub put_covered : (g : Grid) (log : List LogEvent) (p : List ℕ) → list_all (λ o. in_hull (g.distance o.vector) (leaf_with g (population g log) p).hull) (filter (belongs g p) (population g log).put_in) ≡ true
+put_covered g log p = hull_covers (λ (o : Object). g.distance o.vector) (filter (belongs g p) (population g log).put_in)
 
 -- so each live object of the leaf
-pub live_covered : (g : Grid) (log : List LogEvent) (p : List ℕ) → list_all (λ o. in_hull (g.distance o.vector) (leaf_with g (held g log) p).hull) (filter (belongs g p) (live (updates_of log))) ≡ true
+pub live_covered : (g : Grid) (log : List LogEvent) (p : List ℕ) → list_all (λ o. in_hull (g.distance o.vector) (leaf_with g (population g log) p).hull) (filter (belongs g p) (live (updates_of log))) ≡ true
 live_covered g log p =
-    let t : Object → Bool = λ o. in_hull (g.distance o.vector) (leaf_with g (held g log) p).hull in
-    let all = put_live g log (λ o. not (belongs g p o) || t o) (sym (all_of_kept t (belongs g p) (held g log).put) ∙ put_covered g log p) in
-    ap (λ (xs : List Object). list_all t (filter (belongs g p) xs)) (sym (held_live g log)) ∙ all_of_kept t (belongs g p) (held g log).live ∙ all
+    let t : Object → Bool = λ o. in_hull (g.distance o.vector) (leaf_with g (population g log) p).hull in
+    let all = put_live g log (λ o. not (belongs g p o) || t o) (sym (all_of_kept t (belongs g p) (population g log).put_in) ∙ put_covered g log p) in
+    ap (λ (xs : List Object). list_all t (filter (belongs g p) xs)) (sym (held_live g log)) ∙ all_of_kept t (belongs g p) (population g log).live ∙ all

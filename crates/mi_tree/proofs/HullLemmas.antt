@@ -11,7 +11,7 @@ use Rattle.mi_base.specs.Sorting.{put, sorted, SameElements}
 use Rattle.mi_base.proofs.SortingLemmas.{sorted_of_same, same_map, same_filter, same_length}
 use Rattle.mi_tree.specs.declared.outcomes.Leaf.{Leaf}
 use Rattle.mi_tree.specs.declared.counts.Placed.{Placed}
-use Rattle.mi_tree.specs.Counting.{widen, hull_of, added, leaf_among}
+use Rattle.mi_tree.specs.Counting.{widen, hull_of, with_added, leaf_among}
 
 abbrev hull_made : ℕ → ℕ → Option (ℕ × ℕ)
 hull_made a b = Some (a, b)
@@ -60,7 +60,7 @@ among_same xs ys p s =
     leaf_equal p (same_length _ _ kept) (hull_same _ _ (same_map (λ (o : Placed). o.distance) _ _ kept))
 
 -- one more object at the end
-pub among-append : (os : List Placed) (o : Placed) (p : List ℕ) → leaf_among (os ++ o ∷ []) p ≡ added o.perm o.distance (leaf_among os p)
+pub among-append : (os : List Placed) (o : Placed) (p : List ℕ) → leaf_among (os ++ o ∷ []) p ≡ with_added o.perm o.distance (leaf_among os p)
 among-append os o p =
     let kept = filter (λ (x : Placed). begins p x.perm) os in
     let split : filter (λ (x : Placed). begins p x.perm) (os ++ o ∷ []) ≡ kept ++ cond (begins p o.perm) (o ∷ []) [] = filter-append (λ (x : Placed). begins p x.perm) os (o ∷ []) in
@@ -74,6 +74,6 @@ among-append os o p =
     ])
 
 -- the next object of a list
-pub among_more : (objects : List Placed) (i : ℕ) (o : Placed) (p : List ℕ) → i < length objects → o ≡ get_or objects i o → leaf_among (take (i + 1) objects) p ≡ added o.perm o.distance (leaf_among (take i objects) p)
+pub among_more : (objects : List Placed) (i : ℕ) (o : Placed) (p : List ℕ) → i < length objects → o ≡ get_or objects i o → leaf_among (take (i + 1) objects) p ≡ with_added o.perm o.distance (leaf_among (take i objects) p)
 among_more objects i o p lt at =
     ap (λ (xs : List Placed). leaf_among xs p) (take_more objects i o lt ∙ ap (λ x. take i objects ++ x ∷ []) (sym at)) ∙ among-append (take i objects) o p

@@ -12,7 +12,7 @@ use Rattle.mi_base.proofs.HistoryLemmas.{updates_of-append, live-append}
 use Rattle.mi_base.proofs.LiveLemmas.{once_inserted, once_deleted, the_one}
 use Rattle.mi_tree.specs.declared.outcomes.Leaf.{Leaf}
 use Rattle.mi_tree.specs.Cells.{Grid, grid_of, same_cell, is_leaf, MaySplit, AllMaySplit}
-use Rattle.mi_tree.specs.Counting.{Held, belongs, held, leaf_with, is_wanted}
+use Rattle.mi_tree.specs.Counting.{Population, belongs, population, leaf_with, is_wanted}
 use Rattle.mi_tree.specs.Legal.{MayFollow, IsUncrowded, EachMayFollow, LegalLog}
 use Rattle.mi_tree.proofs.LeafLemmas.{same_cell_is}
 use Rattle.mi_tree.proofs.CatLemmas.{held_live}
@@ -22,7 +22,7 @@ abbrev pub grid : Configuration → Grid
 grid c = grid_of (space_of c) c.levels
 
 -- a leaf that is to be split is one, above the greatest depth, with more objects than the cell size
-pub wanted_among : (g : Grid) (h : Held) (levels cell : ℕ) (p : List ℕ) (ps : List (List ℕ)) → list_any (λ l. same_cell p l.prefix && is_wanted levels cell l) (map (leaf_with g h) ps) ≡ true
+pub wanted_among : (g : Grid) (h : Population) (levels cell : ℕ) (p : List ℕ) (ps : List (List ℕ)) → list_any (λ l. same_cell p l.prefix && is_wanted levels cell l) (map (leaf_with g h) ps) ≡ true
     → (list_any (same_cell p) ps ≡ true) × ((length p < levels) × (cell < length (filter (belongs g p) h.live)))
 wanted_among g h levels cell p [] k = absurd (false≢true k)
 wanted_among g h levels cell p (q ∷ ps) k =
@@ -49,7 +49,7 @@ wanted_among g h levels cell p (q ∷ ps) k =
 pub wanted : (c : Configuration) (log : List LogEvent) (p : List ℕ) → MayFollow c log (Split p)
     → (is_leaf (grid c) log p ≡ true) × ((length p < c.levels) × (c.cell < length (filter (belongs (grid c) p) (live (updates_of log)))))
 wanted c log p h =
-    let all = wanted_among (grid c) (held (grid c) log) c.levels c.cell p _ h in
+    let all = wanted_among (grid c) (population (grid c) log) c.levels c.cell p _ h in
     (all.0, (all.1.0, subst (λ (xs : List Object). c.cell < length (filter (belongs (grid c) p) xs)) (held_live (grid c) log) all.1.1))
 
 -- an event that may follow splits no leaf of greatest depth

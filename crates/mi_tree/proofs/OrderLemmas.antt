@@ -13,16 +13,16 @@ use Rattle.mi_base.specs.Prefixes.{has}
 use Rattle.mi_base.proofs.SortingLemmas.{filter_keeps}
 use Rattle.mi_tree.specs.Cells.{Grid, children, same_cell, split_cell, leaves_after, first_leaves, leaves}
 use Rattle.mi_tree.specs.declared.outcomes.Leaf.{Leaf}
-use Rattle.mi_tree.specs.Catalogs.{prefixes}
-use Rattle.mi_tree.specs.Counting.{cat, held, leaf_with}
+use Rattle.mi_tree.specs.Catalog.{prefixes_of}
+use Rattle.mi_tree.specs.Counting.{catalog_after, population, leaf_with}
 use Rattle.mi_tree.specs.Order.{before, in_order}
 use Rattle.mi_tree.proofs.ListLemmas.{all_weaker, all_map, map_twice, all_joined, all_from_test, test_from_all}
 use Rattle.mi_tree.proofs.LeafLemmas.{same_cell_is}
 
 -- each comes before all later ones
-abbrev pub InOrder : List (List ℕ) → Type 0
-InOrder [] = Unit {0}
-InOrder (x ∷ xs) = AllByRecursion (λ y. before x y ≡ true) xs × InOrder xs
+abbrev pub StandInOrder : List (List ℕ) → Type 0
+StandInOrder [] = Unit {0}
+StandInOrder (x ∷ xs) = AllByRecursion (λ y. before x y ≡ true) xs × StandInOrder xs
 
 -- a longer list still comes before
 before_more : (p q : List ℕ) (i : ℕ) → before p q ≡ true → before (p ++ i ∷ []) q ≡ true
@@ -72,12 +72,12 @@ filter_ascends t (i ∷ is) a =
     elim (t i) as P [ true ↦ (filter_keeps _ t is a.0, filter_ascends t is a.1) | false ↦ filter_ascends t is a.1 ]
 
 -- children stand in order
-children_in_order : (p : List ℕ) (is : List ℕ) → Ascending is → InOrder (map (λ i. p ++ i ∷ []) is)
+children_in_order : (p : List ℕ) (is : List ℕ) → Ascending is → StandInOrder (map (λ i. p ++ i ∷ []) is)
 children_in_order p [] a = tt
 children_in_order p (i ∷ is) a = (all_map (λ j. p ++ j ∷ []) _ is (all_weaker _ _ (λ j lt. siblings p i j lt) is a.0), children_in_order p is a.1)
 
 -- two lists in order, one before the other
-order_joined : (xs ys : List (List ℕ)) → InOrder xs → InOrder ys → AllByRecursion (λ x. AllByRecursion (λ y. before x y ≡ true) ys) xs → InOrder (xs ++ ys)
+order_joined : (xs ys : List (List ℕ)) → StandInOrder xs → StandInOrder ys → AllByRecursion (λ x. AllByRecursion (λ y. before x y ≡ true) ys) xs → StandInOrder (xs ++ ys)
 order_joined [] ys a b c = b
 order_joined (x ∷ xs) ys a b c = (all_joined _ xs ys a.0 c.0, order_joined xs ys a.1 b c.1)
 
@@ -119,9 +119,9 @@ parts_of_all n p x [] h = tt
 parts_of_all n p x (q ∷ ls) h = all_joined _ (split_cell n p q) (flat_map (split_cell n p) ls) (parts_after n p q x h.0) (parts_of_all n p x ls h.1)
 
 -- the parts of one leaf stand in order
-parts_in_order : (n : ℕ) (p q : List ℕ) → InOrder (split_cell n p q)
+parts_in_order : (n : ℕ) (p q : List ℕ) → StandInOrder (split_cell n p q)
 parts_in_order n p q =
-    let P : Bool → Type 0 = λ b. InOrder (cond b (children n p) (q ∷ [])) in
+    let P : Bool → Type 0 = λ b. StandInOrder (cond b (children n p) (q ∷ [])) in
     elim (same_cell p q) as P [
       | true ↦ children_in_order p (filter (λ i. not (has i p)) (range_with_len 0 n)) (filter_ascends _ (range_with_len 0 n) (range_ascends 0 n))
       | false ↦ (tt, tt)
@@ -152,34 +152,34 @@ over_all : (n : ℕ) (p q : List ℕ) (ls : List (List ℕ)) → AllByRecursion 
 over_all n p q ls h = swap_all (λ x y. before x y ≡ true) (split_cell n p q) ls (all_weaker _ _ (λ y b. parts_before n p q y b) ls h)
 
 -- a split keeps the order
-split_in_order : (n : ℕ) (p : List ℕ) (ls : List (List ℕ)) → InOrder ls → InOrder (flat_map (split_cell n p) ls)
+split_in_order : (n : ℕ) (p : List ℕ) (ls : List (List ℕ)) → StandInOrder ls → StandInOrder (flat_map (split_cell n p) ls)
 split_in_order n p [] h = tt
 split_in_order n p (q ∷ ls) h =
     order_joined (split_cell n p q) (flat_map (split_cell n p) ls) (parts_in_order n p q) (split_in_order n p ls h.1)
     (over_each n p ls (split_cell n p q) (over_all n p q ls h.0))
 
 -- a log keeps the order
-from_in_order : (n : ℕ) (ls : List (List ℕ)) (log : List LogEvent) → InOrder ls → InOrder (fold (leaves_after n) ls log)
+from_in_order : (n : ℕ) (ls : List (List ℕ)) (log : List LogEvent) → StandInOrder ls → StandInOrder (fold (leaves_after n) ls log)
 from_in_order n ls [] h = h
 from_in_order n ls (Made session op u ∷ log) h = from_in_order n ls log h
 from_in_order n ls (Split p ∷ log) h = from_in_order n (flat_map (split_cell n p) ls) log (split_in_order n p ls h)
 
 -- the first leaves stand in order
-first_in_order : (n : ℕ) → InOrder (first_leaves n)
+first_in_order : (n : ℕ) → StandInOrder (first_leaves n)
 first_in_order n =
-    let P : Bool → Type 0 = λ b. InOrder (cond b ([] ∷ []) (children n [])) in
+    let P : Bool → Type 0 = λ b. StandInOrder (cond b ([] ∷ []) (children n [])) in
     elim (nat_eq n 0) as P [
       | true ↦ (tt, tt)
       | false ↦ children_in_order [] (filter (λ i. not (has i [])) (range_with_len 0 n)) (filter_ascends (λ i. not (has i [])) (range_with_len 0 n) (range_ascends 0 n))
     ]
 
 -- `in_order` as a fact of each
-pub order_from_test : (ls : List (List ℕ)) → in_order ls ≡ true → InOrder ls
+pub order_from_test : (ls : List (List ℕ)) → in_order ls ≡ true → StandInOrder ls
 order_from_test [] h = tt
 order_from_test (x ∷ ls) h = let parts = and_parts (list_all (before x) ls) (in_order ls) h in (all_from_test (before x) ls parts.0, order_from_test ls parts.1)
 
 -- the fact as the test
-pub test_from_order : (ls : List (List ℕ)) → InOrder ls → in_order ls ≡ true
+pub test_from_order : (ls : List (List ℕ)) → StandInOrder ls → in_order ls ≡ true
 test_from_order [] h = refl
 test_from_order (x ∷ ls) h = rw (test_from_all (before x) ls h.0, test_from_order ls h.1) refl
 
@@ -205,13 +205,13 @@ before_less (x ∷ p) (y ∷ q) h =
     go (nat_lt x y) (nat_eq x y) h
 
 -- what stands in order ascends
-ascends : (ls : List (List ℕ)) → InOrder ls → IsStrictlySortedBy (slice_cmp nat_cmp) ls
+ascends : (ls : List (List ℕ)) → StandInOrder ls → IsStrictlySortedBy (slice_cmp nat_cmp) ls
 unfolding IsStrictlySortedBy
 ascends [] h = tt
 ascends (x ∷ ls) h = (all_weaker _ _ (λ y b. before_less x y b) ls h.0, ascends ls h.1)
 
 -- the prefixes of the counted leaves ascend
-pub cat_in_order : (g : Grid) (log : List LogEvent) → IsStrictlySortedBy (slice_cmp nat_cmp) (prefixes (cat g log))
+pub cat_in_order : (g : Grid) (log : List LogEvent) → IsStrictlySortedBy (slice_cmp nat_cmp) (prefixes_of (catalog_after g log))
 cat_in_order g log =
-    subst (IsStrictlySortedBy (slice_cmp nat_cmp)) (sym (map_twice (λ (l : Leaf). l.prefix) (leaf_with g (held g log)) (leaves g log) ∙ map-id (leaves g log)))
+    subst (IsStrictlySortedBy (slice_cmp nat_cmp)) (sym (map_twice (λ (l : Leaf). l.prefix) (leaf_with g (population g log)) (leaves g log) ∙ map-id (leaves g log)))
     (ascends (leaves g log) (from_in_order g.pivots (first_leaves g.pivots) log (first_in_order g.pivots)))

@@ -26,34 +26,34 @@ in_hull d None = false
 in_hull d (Some h) = nat_le h.0 d && nat_le d h.1
 
 -- the live objects after a log, and those that were put into the leaves of that time
-pub record Held : Type 0 where
+pub record Population : Type 0 where
   pub live : List Object
-  pub put : List Object
+  pub put_in : List Object
 
 -- an object belongs to the leaf whose prefix begins its permutation
 abbrev pub belongs : Grid → List ℕ → Object → Bool
 belongs g p o = begins p (g.perm o.vector)
 
 -- an insert puts its object into a leaf, a delete takes none out, a split puts the live objects of its leaf into the children
-abbrev pub held_after : Grid → Held → LogEvent → Held
-held_after g h (Made session op (Insert id vector)) = record { live = live_after h.live (Insert id vector); put = record { id = id; vector = vector } ∷ h.put }
-held_after g h (Made session op (Delete id)) = record { live = live_after h.live (Delete id); put = h.put }
-held_after g h (Split p) = record { live = h.live; put = filter (λ o. not (belongs g p o)) h.put ++ filter (belongs g p) h.live }
+abbrev pub population_after : Grid → Population → LogEvent → Population
+population_after g h (Made session op (Insert id vector)) = record { live = live_after h.live (Insert id vector); put_in = record { id = id; vector = vector } ∷ h.put_in }
+population_after g h (Made session op (Delete id)) = record { live = live_after h.live (Delete id); put_in = h.put_in }
+population_after g h (Split p) = record { live = h.live; put_in = filter (λ o. not (belongs g p o)) h.put_in ++ filter (belongs g p) h.live }
 
-abbrev pub held : Grid → List LogEvent → Held
-held g log = fold (held_after g) (record { live = []; put = [] }) log
+abbrev pub population : Grid → List LogEvent → Population
+population g log = fold (population_after g) (record { live = []; put_in = [] }) log
 
 -- a leaf counts the live objects that belong to it, and its hull is that of all that were put into it
-abbrev pub leaf_with : Grid → Held → List ℕ → Leaf
+abbrev pub leaf_with : Grid → Population → List ℕ → Leaf
 leaf_with g h p = record {
   prefix = p;
   count = length (filter (belongs g p) h.live);
-  hull = hull_of (map (λ o. g.distance o.vector) (filter (belongs g p) h.put));
+  hull = hull_of (map (λ o. g.distance o.vector) (filter (belongs g p) h.put_in));
 }
 
 -- the leaves after a log, in dictionary order of their prefixes
-abbrev pub cat : Grid → List LogEvent → List Leaf
-cat g log = map (leaf_with g (held g log)) (leaves g log)
+abbrev pub catalog_after : Grid → List LogEvent → List Leaf
+catalog_after g log = map (leaf_with g (population g log)) (leaves g log)
 
 -- a leaf may be split: it is above the greatest depth
 abbrev pub is_splittable : ℕ → Leaf → Bool
@@ -72,16 +72,16 @@ abbrev pub is_overfull : ℕ → ℕ → Leaf → Bool
 is_overfull levels cell leaf = is_splittable levels leaf && nat_lt (4 * cell) leaf.count
 
 -- an object as a catalog is told of it
-abbrev pub placed : Grid → Object → Placed
-placed g o = record { perm = g.perm o.vector; distance = g.distance o.vector }
+abbrev pub placed_object : Grid → Object → Placed
+placed_object g o = record { perm = g.perm o.vector; distance = g.distance o.vector }
 
 -- one more object with this permutation and key distance
-abbrev pub added : List ℕ → ℕ → Leaf → Leaf
-added perm d leaf = cond (begins leaf.prefix perm) (record { prefix = leaf.prefix; count = leaf.count + 1; hull = widen d leaf.hull }) leaf
+abbrev pub with_added : List ℕ → ℕ → Leaf → Leaf
+with_added perm d leaf = cond (begins leaf.prefix perm) (record { prefix = leaf.prefix; count = leaf.count + 1; hull = widen d leaf.hull }) leaf
 
 -- one object less with this permutation
-abbrev pub removed : List ℕ → Leaf → Leaf
-removed perm leaf = cond (begins leaf.prefix perm) (record { prefix = leaf.prefix; count = leaf.count - 1; hull = leaf.hull }) leaf
+abbrev pub with_removed : List ℕ → Leaf → Leaf
+with_removed perm leaf = cond (begins leaf.prefix perm) (record { prefix = leaf.prefix; count = leaf.count - 1; hull = leaf.hull }) leaf
 
 -- the leaf of a prefix with those of the objects that belong to it
 abbrev pub leaf_among : List Placed → List ℕ → Leaf
@@ -92,12 +92,12 @@ leaf_among objects p = record {
 }
 
 -- the children of p in place of its leaf, with these objects
-abbrev pub parted : ℕ → List ℕ → List Placed → Leaf → List Leaf
-parted pivots p objects leaf = cond (same_cell p leaf.prefix) (map (leaf_among objects) (children pivots p)) (leaf ∷ [])
+abbrev pub split_leaf : ℕ → List ℕ → List Placed → Leaf → List Leaf
+split_leaf pivots p objects leaf = cond (same_cell p leaf.prefix) (map (leaf_among objects) (children pivots p)) (leaf ∷ [])
 
 -- the leaves whose prefix begins a permutation
-abbrev pub beginning : List ℕ → List Leaf → List Leaf
-beginning perm ls = filter (λ l. begins l.prefix perm) ls
+abbrev pub leaves_beginning : List ℕ → List Leaf → List Leaf
+leaves_beginning perm ls = filter (λ l. begins l.prefix perm) ls
 
 -- a leaf has this prefix
 abbrev pub has_leaf : List ℕ → List Leaf → Bool

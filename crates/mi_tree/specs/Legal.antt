@@ -12,12 +12,12 @@ use Rattle.mi_base.specs.Configuration.{Configuration, metric_space, space_of}
 use Rattle.mi_base.specs.History.{Entered, entered, updates_of, events_at, is_live}
 use Rattle.mi_tree.specs.declared.outcomes.Leaf.{Leaf}
 use Rattle.mi_tree.specs.Cells.{grid_of, same_cell}
-use Rattle.mi_tree.specs.Counting.{cat, is_wanted, is_overfull}
+use Rattle.mi_tree.specs.Counting.{catalog_after, is_wanted, is_overfull}
 use Rattle.mi_tree.specs.Right.{Right}
 
 -- the leaves after a log, under these settings
 abbrev pub cells_of : Configuration → List LogEvent → List Leaf
-cells_of c log = cat (grid_of (space_of c) c.levels) log
+cells_of c log = catalog_after (grid_of (space_of c) c.levels) log
 
 -- an event that may follow a log: an insert of a vector that fits, whose identifier isn't live, a delete of a live one,
 -- or a split of a leaf that is to be split
@@ -58,14 +58,14 @@ AllRight c log session [] (ys ∷ replies) = ⊥
 AllRight c log session (os ∷ scripts) [] = ⊥
 
 -- the update that an operation enters into the log where it is accepted
-abbrev pub accepted : ℕ → ℕ → Op → Reply → List Entered
-accepted session op (Insert id vector) (Stored n) = record { session = session; op = op; update = update.Insert id vector } ∷ []
-accepted session op (Delete id) (Removed n) = record { session = session; op = op; update = update.Delete id } ∷ []
-accepted session op o y = []
+abbrev pub accepted_update : ℕ → ℕ → Op → Reply → List Entered
+accepted_update session op (Insert id vector) (Stored n) = record { session = session; op = op; update = update.Insert id vector } ∷ []
+accepted_update session op (Delete id) (Removed n) = record { session = session; op = op; update = update.Delete id } ∷ []
+accepted_update session op o y = []
 
 -- the accepted updates of a script in order, each once
 abbrev pub accepted_in : ℕ → ℕ → List Op → List Reply → List Entered
-accepted_in session op (o ∷ os) (y ∷ ys) = accepted session op o y ++ accepted_in session (op + 1) os ys
+accepted_in session op (o ∷ os) (y ∷ ys) = accepted_update session op o y ++ accepted_in session (op + 1) os ys
 accepted_in session op os ys = []
 
 -- the updates of the log that name a session, in order, are the accepted updates of its script

@@ -1,9 +1,9 @@
 pub mod Catalog
-pub mod Catalogs
 pub mod Cells
 pub mod Counting
 pub mod InTurn
 pub mod Legal
+pub mod LoneCell
 pub mod Order
 pub mod Passing
 pub mod Right

@@ -11,7 +11,7 @@ use Rattle.mi_base.specs.History.{Object, live, updates_of}
 use Rattle.mi_base.specs.Space.{Space}
 use Rattle.mi_tree.specs.declared.outcomes.Leaf.{Leaf}
 use Rattle.mi_tree.specs.Cells.{grid_of}
-use Rattle.mi_tree.specs.Counting.{belongs, cat}
+use Rattle.mi_tree.specs.Counting.{belongs, catalog_after}
 
 -- no pivot outside these is nearer to the query than d by more than twice the radius
 abbrev pub none_nearer : List ℕ → ℕ → List ℕ → ℕ → Bool
@@ -49,12 +49,12 @@ abbrev pub lets_through : ℕ → List ℕ → List ℕ → Bool
 lets_through r xs ys = list_all (λ (x, y). nat_le (abs_diff x y) r) (zip xs ys)
 
 -- how many leaves after the log a query opens
-abbrev pub opened : Space → ℕ → List LogEvent → List ℤ → ℕ → ℕ
-opened space levels log query r = count_by (passes (distances space query) r) (cat (grid_of space levels) log)
+abbrev pub opened_count : Space → ℕ → List LogEvent → List ℤ → ℕ → ℕ
+opened_count space levels log query r = count_by (passes (distances space query) r) (catalog_after (grid_of space levels) log)
 
 -- the object's leaf is opened
 abbrev pub is_opened : Space → ℕ → List LogEvent → List ℤ → ℕ → Object → Bool
-is_opened space levels log query r o = list_any (λ l. belongs (grid_of space levels) l.prefix o && passes (distances space query) r l) (cat (grid_of space levels) log)
+is_opened space levels log query r o = list_any (λ l. belongs (grid_of space levels) l.prefix o && passes (distances space query) r l) (catalog_after (grid_of space levels) log)
 
 -- the live objects that the query is compared with: their leaf is opened, and the filter lets them through
 abbrev pub candidates : Space → ℕ → List LogEvent → List ℤ → ℕ → List Object
@@ -78,9 +78,9 @@ is_reached dq None leaf = is_some leaf.hull
 is_reached dq (Some worst) leaf = passes dq worst leaf
 
 -- how many leaves after the log such a query opens
-abbrev pub reached : Space → ℕ → List LogEvent → List ℤ → Option ℕ → ℕ
-reached space levels log query worst = count_by (is_reached (distances space query) worst) (cat (grid_of space levels) log)
+abbrev pub reached_count : Space → ℕ → List LogEvent → List ℤ → Option ℕ → ℕ
+reached_count space levels log query worst = count_by (is_reached (distances space query) worst) (catalog_after (grid_of space levels) log)
 
 -- how many live objects these leaves have
 abbrev pub reached_objects : Space → ℕ → List LogEvent → List ℤ → Option ℕ → ℕ
-reached_objects space levels log query worst = sum_by (λ l. cond (is_reached (distances space query) worst l) l.count 0) (cat (grid_of space levels) log)
+reached_objects space levels log query worst = sum_by (λ l. cond (is_reached (distances space query) worst l) l.count 0) (catalog_after (grid_of space levels) log)

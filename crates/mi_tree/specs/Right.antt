@@ -11,7 +11,7 @@ use Rattle.mi_base.specs.declared.records.Position.{Position}
 use Rattle.mi_base.specs.declared.records.Row.{Row}
 use Rattle.mi_base.specs.Configuration.{Configuration, metric_space, space_of}
 use Rattle.mi_base.specs.History.{Entered, entered, updates_of, at_position, IsPosition, is_live, range_scan, nearest_scan}
-use Rattle.mi_tree.specs.Passing.{opened, candidates, kth_distance, reached}
+use Rattle.mi_tree.specs.Passing.{opened_count, candidates, kth_distance, reached_count}
 
 -- update number n of the log is this one
 pub record IsUpdateNumber (log : List LogEvent) (n : ℕ) (e : Entered) : Type 0 where
@@ -19,8 +19,8 @@ pub record IsUpdateNumber (log : List LogEvent) (n : ℕ) (e : Entered) : Type 0
   pub stands : slice_get (entered log) (n - 1) ≡ Some e
 
 -- the updates before number n
-abbrev pub before : ℕ → List LogEvent → List Update
-before n log = take (n - 1) (updates_of log)
+abbrev pub updates_before : ℕ → List LogEvent → List Update
+updates_before n log = take (n - 1) (updates_of log)
 
 -- the updates of the prefix at a position
 abbrev pub history_at : List LogEvent → Position → List Update
@@ -30,21 +30,21 @@ history_at log p = updates_of (at_position log p)
 pub record IsRange (c : Configuration) (log : List LogEvent) (radius : ℕ) (query : List ℤ) (p : Position) (rows : List Row) (cells distances : ℕ) : Type 0 where
   pub position : IsPosition log p
   pub rows_are : rows ≡ range_scan (metric_space c) (history_at log p) query radius
-  pub cells_are : cells ≡ opened (space_of c) c.levels (at_position log p) query radius
+  pub cells_are : cells ≡ opened_count (space_of c) c.levels (at_position log p) query radius
   pub distances_are : distances ≡ length c.pivots + length (candidates (space_of c) c.levels (at_position log p) query radius)
 
 -- the reply to a query for the nearest at a position: the rows are the scan, and the cells are those that have to be opened for them
 pub record IsNearest (c : Configuration) (log : List LogEvent) (count : ℕ) (query : List ℤ) (p : Position) (rows : List Row) (cells : ℕ) : Type 0 where
   pub position : IsPosition log p
   pub rows_are : rows ≡ nearest_scan (metric_space c) (history_at log p) query count
-  pub cells_are : cells ≡ reached (space_of c) c.levels (at_position log p) query (kth_distance count rows)
+  pub cells_are : cells ≡ reached_count (space_of c) c.levels (at_position log p) query (kth_distance count rows)
 
 -- The reply to operation number op of the session. A pair that isn't listed is not right.
 abbrev pub Right : Configuration → List LogEvent → ℕ → ℕ → Op → Reply → Type 0
 Right c log session op (Insert id vector) (reply.Stored n) =
-    IsUpdateNumber log n (record { session = session; op = op; update = update.Insert id vector }) × (is_live id (before n log) ≡ false)
+    IsUpdateNumber log n (record { session = session; op = op; update = update.Insert id vector }) × (is_live id (updates_before n log) ≡ false)
 Right c log session op (Delete id) (reply.Removed n) =
-    IsUpdateNumber log n (record { session = session; op = op; update = update.Delete id }) × (is_live id (before n log) ≡ true)
+    IsUpdateNumber log n (record { session = session; op = op; update = update.Delete id }) × (is_live id (updates_before n log) ≡ true)
 Right c log session op (Insert id vector) (reply.Present p) = IsPosition log p × (is_live id (history_at log p) ≡ true)
 Right c log session op (Delete id) (reply.Absent p) = IsPosition log p × (is_live id (history_at log p) ≡ false)
 Right c log session op (Insert id vector) (reply.Full limit) =

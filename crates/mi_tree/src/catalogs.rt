@@ -3,8 +3,8 @@ ghost use Rattle.std.specs.Prelude.{◌≡◌, ◌<◌, ◌≤◌, ◌++◌, [],
 ghost use Rattle.mi_base.specs.Permutations.{begins};
 ghost use Rattle.mi_base.specs.Configuration.{IsDepth};
 ghost use Rattle.mi_tree.specs.Cells.{children, first_leaves};
-ghost use Rattle.mi_tree.specs.Counting.{added, removed, parted, beginning, has_leaf, leaf_among};
-ghost use Rattle.mi_tree.specs.Catalogs.{Splits};
+ghost use Rattle.mi_tree.specs.Counting.{with_added, with_removed, split_leaf, leaves_beginning, has_leaf, leaf_among};
+ghost use Rattle.mi_tree.specs.Catalog.{Splits};
 
 use crate::counts::{self, Placed};
 use crate::{Leaf, SplitRefusal, cells};
@@ -21,13 +21,13 @@ pub struct Catalog {
 }
 
 impl Model for Catalog {
-    ghost use Rattle.mi_tree.specs.Catalogs.{Cells, IsCatalog, prefixes};
+    ghost use Rattle.mi_tree.specs.Catalog.{CatalogState, IsCatalog, prefixes_of};
 
-    ghost Value = { Cells };
+    ghost Value = { CatalogState };
 
     ghost view = { λ c. record { pivots = c.pivots; levels = c.levels; leaves = c.leaves.items } };
 
-    ghost invariant = { λ c. IsCatalog c.pivots c.levels (prefixes c.leaves.items) };
+    ghost invariant = { λ c. IsCatalog c.pivots c.levels (prefixes_of c.leaves.items) };
 }
 
 impl Catalog {
@@ -54,7 +54,7 @@ impl Catalog {
     /// The leaf whose prefix begins the permutation.
     pub fn locate(&self, perm: &Perm) -> Leaf
         requires { length perm.now ≡ self.now.pivots }
-        ensures { beginning perm.now self.now.leaves ≡ result ∷ [] }
+        ensures { leaves_beginning perm.now self.now.leaves ≡ result ∷ [] }
     {
         self.leaves[self.place_of(perm)].copy()
     }
@@ -63,7 +63,7 @@ impl Catalog {
     pub fn add(&mut self, perm: &Perm, distance: u32)
         requires long { length perm.now ≡ self.old.pivots }
         requires room { All (λ l. begins l.prefix perm.now ≡ true → l.count < u32.MAX) self.old.leaves }
-        ensures { self.new ≡ record self.old { leaves = map (added perm.now distance) self.old.leaves } }
+        ensures { self.new ≡ record self.old { leaves = map (with_added perm.now distance) self.old.leaves } }
     {
         let place = self.place_of(perm);
         counts::put(&mut self.leaves[place], distance);
@@ -73,7 +73,7 @@ impl Catalog {
     pub fn remove(&mut self, perm: &Perm)
         requires long { length perm.now ≡ self.old.pivots }
         requires some { All (λ l. begins l.prefix perm.now ≡ true → 0 < l.count) self.old.leaves }
-        ensures { self.new ≡ record self.old { leaves = map (removed perm.now) self.old.leaves } }
+        ensures { self.new ≡ record self.old { leaves = map (with_removed perm.now) self.old.leaves } }
     {
         let place = self.place_of(perm);
         counts::take(&mut self.leaves[place]);
@@ -154,7 +154,7 @@ impl Catalog {
     /// The place of the leaf whose prefix begins the permutation: the last one that the permutation doesn't come before.
     fn place_of(&self, perm: &Perm) -> usize
         requires { length perm.now ≡ self.now.pivots }
-        ensures one { length (beginning perm.now self.now.leaves) ≡ 1 }
+        ensures one { length (leaves_beginning perm.now self.now.leaves) ≡ 1 }
         ensures within { result < length self.now.leaves }
         ensures begins { IfSome (slice_get self.now.leaves result) (λ l. begins l.prefix perm.now ≡ true) }
     {
@@ -181,7 +181,7 @@ impl Catalog {
     ) -> Result<Vec<Leaf>, NoMemory>
         requires few { length objects.now ≤ u32.MAX }
         requires short { length prefix.now < 6 }
-        ensures { IfOk result (λ leaves. leaves.items ≡ flat_map (parted self.now.pivots prefix.now objects.now) self.now.leaves) }
+        ensures { IfOk result (λ leaves. leaves.items ≡ flat_map (split_leaf self.now.pivots prefix.now objects.now) self.now.leaves) }
     {
         let mut leaves = Vec::new(alloc);
         for leaf in &self.leaves {

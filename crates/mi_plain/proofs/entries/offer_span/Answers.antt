@@ -1,8 +1,8 @@
 use Rattle.std.proofs.Common.{◌≡◌, ◌∙◌, ℕ, List, sym, ap, subst}
 use Rattle.mi_key.specs.declared.entries.Entry.{Entry}
-use Rattle.mi_range.specs.Ranging.{Ranging, Takes}
+use Rattle.mi_range.specs.Ranging.{Ranging, TakesRange}
 use Rattle.mi_range.proofs.TakeLemmas.{takes_none}
-use Rattle.mi_plain.specs.Opening.{AreMeasured, offerings, spanned}
+use Rattle.mi_plain.specs.Opening.{AreMeasured, offerings, entries_in_span}
 use Rattle.mi_plain.proofs.OfferingLemmas.{offered_in, offered_out}
 use Rattle.mi_plain.proofs.entries.offer_span.Goals as goal
 
@@ -16,7 +16,7 @@ loop-entry-preserved-then-has g c =
       dists = c.take.ensures.taken.same_dists ∙ ap (λ (r : Ranging). r.dists) c.room.ensures.same ∙ c.loop-entry.invariant.dists;
       measured = all.1;
       takes = λ w n t. c.loop-entry.invariant.takes w n
-          (subst (λ (xs : List (ℕ × Entry)). Takes m q c.loop-entry.work c.loop-entry.steps (offerings (spanned c.args.span.now xs)) w n) (sym c.in-Some.ensures.steps)
+          (subst (λ (xs : List (ℕ × Entry)). TakesRange m q c.loop-entry.work c.loop-entry.steps (offerings (entries_in_span c.args.span.now xs)) w n) (sym c.in-Some.ensures.steps)
           (offered_in m q c.args.span.now c.loop-entry.work c.room.new.self c.take.new.self w c.loop-entry.steps c.take.new.steps n e c.next.new.self (sym c.has.ensures ∙ c.if-has.true) c.room.ensures.same c.take.ensures.taken t));
     }
 
@@ -30,7 +30,7 @@ loop-entry-preserved g c =
       dists = c.loop-entry.invariant.dists;
       measured = all.1;
       takes = λ w n t. c.loop-entry.invariant.takes w n
-          (subst (λ (xs : List (ℕ × Entry)). Takes m q c.loop-entry.work c.loop-entry.steps (offerings (spanned c.args.span.now xs)) w n) (sym c.in-Some.ensures.steps)
+          (subst (λ (xs : List (ℕ × Entry)). TakesRange m q c.loop-entry.work c.loop-entry.steps (offerings (entries_in_span c.args.span.now xs)) w n) (sym c.in-Some.ensures.steps)
           (offered_out m q c.args.span.now c.loop-entry.work w c.loop-entry.steps n e c.next.new.self (sym c.has.ensures ∙ c.if-has.false) t));
     }
 
@@ -40,7 +40,7 @@ returns g c =
     let q = c.args.query.now in
     let begun : c.into_iter-entry-iterator.result ≡ c.args.entries.now.entries = cc (c.into_iter-entry-iterator.ensures.into_iter_gives, c.iter-entry-items.ensures.rest) in
     let over = c.in-None.ensures.steps.0 in
-    let rest : Takes m q c.loop-entry.work c.loop-entry.steps (offerings (spanned c.args.span.now c.loop-entry.entry-iterator)) c.loop-entry.work c.loop-entry.steps =
-    subst (λ (xs : List (ℕ × Entry)). Takes m q c.loop-entry.work c.loop-entry.steps (offerings (spanned c.args.span.now xs)) c.loop-entry.work c.loop-entry.steps) (sym over) (takes_none m q c.loop-entry.work c.loop-entry.steps) in
-    subst (λ (xs : List (ℕ × Entry)). Takes m q c.args.work.now c.args.steps.now (offerings (spanned c.args.span.now xs)) c.loop-entry.work c.loop-entry.steps) begun
+    let rest : TakesRange m q c.loop-entry.work c.loop-entry.steps (offerings (entries_in_span c.args.span.now c.loop-entry.entry-iterator)) c.loop-entry.work c.loop-entry.steps =
+    subst (λ (xs : List (ℕ × Entry)). TakesRange m q c.loop-entry.work c.loop-entry.steps (offerings (entries_in_span c.args.span.now xs)) c.loop-entry.work c.loop-entry.steps) (sym over) (takes_none m q c.loop-entry.work c.loop-entry.steps) in
+    subst (λ (xs : List (ℕ × Entry)). TakesRange m q c.args.work.now c.args.steps.now (offerings (entries_in_span c.args.span.now xs)) c.loop-entry.work c.loop-entry.steps) begun
     (c.loop-entry.invariant.takes c.loop-entry.work c.loop-entry.steps rest)

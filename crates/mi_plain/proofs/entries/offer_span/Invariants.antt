@@ -1,6 +1,6 @@
 use Rattle.std.proofs.Common.{◌≡◌, ℕ}
-use Rattle.mi_range.specs.Ranging.{Ranging, Takes}
-use Rattle.mi_plain.specs.Opening.{AreMeasured, offerings, spanned}
+use Rattle.mi_range.specs.Ranging.{Ranging, TakesRange}
+use Rattle.mi_plain.specs.Opening.{AreMeasured, offerings, entries_in_span}
 use Rattle.mi_plain.proofs.entries.offer_span.Given as goal
 
 -- what is offered from here on completes what is offered of all
@@ -10,6 +10,6 @@ invariant-loop-entry g l =
     record {
       dists : l.work.dists ≡ l.initial.work.dists;
       measured : AreMeasured m l.query l.initial.work.dists l.entry-iterator;
-      takes : (w : Ranging) (n : ℕ) → Takes m l.query l.work l.steps (offerings (spanned l.span l.entry-iterator)) w n
-          → Takes m l.query l.initial.work l.initial.steps (offerings (spanned l.span l.initial.entry-iterator)) w n;
+      takes : (w : Ranging) (n : ℕ) → TakesRange m l.query l.work l.steps (offerings (entries_in_span l.span l.entry-iterator)) w n
+          → TakesRange m l.query l.initial.work l.initial.steps (offerings (entries_in_span l.span l.initial.entry-iterator)) w n;
     }

@@ -1,6 +1,6 @@
 use Rattle.std.proofs.Common.{◌∙◌, sym, ap, arith}
 use Rattle.mi_tree.specs.declared.outcomes.Leaf.{Leaf}
-use Rattle.mi_tree.specs.Counting.{added}
+use Rattle.mi_tree.specs.Counting.{with_added}
 use Rattle.mi_tree.proofs.HullLemmas.{among_more}
 use Rattle.mi_tree.proofs.CatalogLemmas.{added_in, added_out}
 use Rattle.mi_tree.proofs.counts.leaf_among.Goals as goal
@@ -10,7 +10,7 @@ pub loop-object-preserved : goal.loop-object-preserved
 loop-object-preserved c =
     let o = c.object-item.result in
     let leaf = c.loop-object.leaf in
-    let more = ap (added o.perm o.distance) c.loop-object.invariant.0 ∙ sym (among_more c.args.objects.now c.loop-object.object-index o c.args.prefix c.loop-object-test.true c.object-item.is) in
+    let more = ap (with_added o.perm o.distance) c.loop-object.invariant.0 ∙ sym (among_more c.args.objects.now c.loop-object.object-index o c.args.prefix c.loop-object-test.true c.object-item.is) in
     let count = c.loop-object.invariant.1 in
     elim c.if-begins.branch [
       | then-begins w ↦

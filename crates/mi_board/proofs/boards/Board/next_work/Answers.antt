@@ -1,6 +1,6 @@
 use Rattle.std.proofs.Common.{◌≡◌, ℕ, ◌∙◌, sym, ap, subst, refl, ◌<◌, Some, length, List}
 use Rattle.std.specs.List.{find}
-use Rattle.mi_board.specs.Actors.{claiming}
+use Rattle.mi_board.specs.Actors.{with_claim}
 use Rattle.mi_board.specs.Boards.{BoardState, first_wanted, is_free, with_actor}
 use Rattle.mi_board.proofs.ActorLemmas.{change_is}
 use Rattle.mi_board.proofs.FoundLemmas.{find_there, find_free, no_first}
@@ -17,7 +17,7 @@ invariant_of-self-in-Some-first_wanted c =
     let found : find (is_free s) (cells_of b.settings b.events.items) ≡ Some leaf = sym c.first_wanted.ensures ∙ c.in-Some-first_wanted.is in
     let known : c.args.actor < length b.actors.items = subst (λ (x : BoardState). c.args.actor < length x.actors) (sym c.self.view_is) c.requires.known in
     claim_board b.settings b.events.items b.catalog b.updates b.actors.items _ ib leaf.prefix (find_there (is_free s) (cells_of b.settings b.events.items) leaf found) (find_free s (cells_of b.settings b.events.items) leaf found)
-    c.args.actor _ (change_is (claiming leaf.prefix) b.actors.items c.args.actor c.index_mut.result.now _ known c.index_mut.ensures.value (ap (λ (q : List ℕ). record { claim = Some q; reserved = c.index_mut.result.now.reserved }) c.copy.ensures))
+    c.args.actor _ (change_is (with_claim leaf.prefix) b.actors.items c.args.actor c.index_mut.result.now _ known c.index_mut.ensures.value (ap (λ (q : List ℕ). record { claim = Some q; reserved = c.index_mut.result.now.reserved }) c.copy.ensures))
 
 pub returns-in-Some-first_wanted : goal.returns-in-Some-first_wanted
 returns-in-Some-first_wanted c =
@@ -28,10 +28,10 @@ returns-in-Some-first_wanted c =
     let rest = c.pop_front.ensures.rest in
     let kept = rw none at c.pop_front.ensures.items in
     let first : first_wanted c.args.self.now ≡ Some leaf = sym (ap first_wanted c.self.view_is) ∙ sym c.first_wanted.ensures ∙ c.in-Some-first_wanted.is in
-    let actors_is = change_is (claiming leaf.prefix) b.actors.items c.args.actor c.index_mut.result.now _ known c.index_mut.ensures.value (ap (λ (q : List ℕ). record { claim = Some q; reserved = c.index_mut.result.now.reserved }) c.copy.ensures) in (
+    let actors_is = change_is (with_claim leaf.prefix) b.actors.items c.args.actor c.index_mut.result.now _ known c.index_mut.ensures.value (ap (λ (q : List ℕ). record { claim = Some q; reserved = c.index_mut.result.now.reserved }) c.copy.ensures) in (
       sym (ap (λ (x : BoardState). x.retired) c.self.view_is) ∙ no_first b.retired.items (kept ∙ rest),
       (
         first,
-        state_equal b.settings refl actors_is (sym kept) ∙ ap (with_actor (claiming leaf.prefix) c.args.actor) c.self.view_is,
+        state_equal b.settings refl actors_is (sym kept) ∙ ap (with_actor (with_claim leaf.prefix) c.args.actor) c.self.view_is,
       ),
     )

@@ -2,7 +2,7 @@ use Rattle.std.proofs.Common.{◌≡◌, ℕ, ◌∙◌, sym, ap, subst, arith, 
 use Rattle.std.specs.Vec.{vec_capacity}
 use Rattle.mi_base.specs.declared.records.LogEvent.{LogEvent}
 use Rattle.mi_base.specs.declared.records.LogEvent.TheVariants.{Split}
-use Rattle.mi_board.specs.Actors.{actor_at, released}
+use Rattle.mi_board.specs.Actors.{actor_at, without_claim}
 use Rattle.mi_board.specs.Boards.{BoardState, MayPublish, leaf_claimed, prefix_or, with_split}
 use Rattle.mi_board.proofs.ActorLemmas.{actor_is, change_is, reserved}
 use Rattle.mi_board.proofs.BoardLemmas.{split_few}
@@ -36,7 +36,7 @@ invariant_of-self-2 c =
     let space : length b.events.items + (reserved b.actors.items + 1) ≤ vec_capacity c.push.new.self = omega (arith, more, grown, count, size) in
     let grows : vec_capacity b.events ≤ vec_capacity c.push.new.self = omega (arith, before, grown) in
     publish_board b.settings b.events.items b.catalog b.updates b.actors.items _ ib actor _ _ _ _ grows b.retired.items p c.args.objects.now mine space log_is c.in-Ok.ensures.2
-    (change_is released b.actors.items actor c.index_mut.result.now _ known c.index_mut.ensures.value refl)
+    (change_is without_claim b.actors.items actor c.index_mut.result.now _ known c.index_mut.ensures.value refl)
 
 pub returns : goal.returns
 returns c =
@@ -49,5 +49,5 @@ returns c =
     let pushed : c.push.new.self.items ≡ c.reserve.new.self.items ++ Split p ∷ [] = c.push.ensures.items ∙ (rw c.unwrap.ensures refl) in
     let log_is = pushed ∙ ap (λ (l : List LogEvent). l ++ Split p ∷ []) c.reserve.ensures.items in
     let gone = c.in_ok-push_back.ensures.items ∙ ap (λ (q : List ℕ). b.retired.items ++ q ∷ []) c.copy.ensures in
-    let actors_is = change_is released b.actors.items actor c.index_mut.result.now _ known c.index_mut.ensures.value refl in
+    let actors_is = change_is without_claim b.actors.items actor c.index_mut.result.now _ known c.index_mut.ensures.value refl in
     (c.end.ensures, state_equal b.settings log_is actors_is gone ∙ ap (with_split p actor) c.self.view_is ∙ ap (λ (q : List ℕ). with_split q actor c.args.self.now) named)

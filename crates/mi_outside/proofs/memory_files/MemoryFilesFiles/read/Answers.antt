@@ -1,5 +1,5 @@
 use Rattle.std.proofs.Common.{Some, ap, ◌∙◌}
-use Rattle.mi_outside.specs.Contents.{held}
+use Rattle.mi_outside.specs.Contents.{content_of}
 use Rattle.mi_outside.specs.Kept.{KeptFiles}
 use Rattle.mi_outside.proofs.KeptLemmas.{never_failed, reads_on}
 use Rattle.mi_outside.proofs.memory_files.MemoryFilesFiles.read.Goals as goal
@@ -15,6 +15,6 @@ returns-in-Some-clause-failed c = (
       (ap (λ (kept : KeptFiles). kept.calls) c.self.view_is)
       c.saturating_add-self-inside.ensures
       c.if-not-listed.ensures.value
-      (c.in-Some.ensures ∙ ap (λ (kept : KeptFiles). held kept.files c.args.name.now) c.self.view_is)
+      (c.in-Some.ensures ∙ ap (λ (kept : KeptFiles). content_of kept.files c.args.name.now) c.self.view_is)
       fails),
 )

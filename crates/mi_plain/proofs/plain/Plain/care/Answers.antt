@@ -1,6 +1,6 @@
 use Rattle.std.proofs.Common.{◌≡◌, ◌<◌, ◌∷◌, [], ◌∙◌, length, sym, subst, ap, arith, length-append}
 use Rattle.mi_base.specs.declared.records.LogEvent.TheVariants.{Split}
-use Rattle.mi_board.specs.Actors.{claiming}
+use Rattle.mi_board.specs.Actors.{with_claim}
 use Rattle.mi_board.specs.Boards.{BoardState, with_actor, with_split}
 use Rattle.mi_plain.specs.Answering.{GrowsBySplits}
 use Rattle.mi_plain.specs.Plain.{IsPlain, NoClaims, work_left}
@@ -19,7 +19,7 @@ pub invariant_of-self-in-Split : goal.invariant_of-self-in-Split
 invariant_of-self-in-Split c =
     let i = c.self.inside in
     let P : BoardState → Type 0 = λ x. IsPlain x i.pivots i.entries.entries in
-    subst P (sym c.in-Split.ensures.1.1) (plain_actor i.board i.pivots i.entries.entries c.self.invariant (claiming c.in-Split.leaf.prefix) 1)
+    subst P (sym c.in-Split.ensures.1.1) (plain_actor i.board i.pivots i.entries.entries c.self.invariant (with_claim c.in-Split.leaf.prefix) 1)
 
 pub split-requires-clause-wanted : goal.split-requires-clause-wanted
 split-requires-clause-wanted c =
@@ -31,18 +31,18 @@ pub returns-in_ok-split-in-Split-clause-grows : goal.returns-in_ok-split-in-Spli
 returns-in_ok-split-in-Split-clause-grows c =
     let b = c.self.inside.board in
     let p = c.in-Split.leaf.prefix in
-    let now : c.split.new.self ≡ with_split p 1 (with_actor (claiming p) 1 b) = c.in_ok-split-in-Split.ensures.ok ∙ ap (with_split p 1) c.in-Split.ensures.1.1 in
+    let now : c.split.new.self ≡ with_split p 1 (with_actor (with_claim p) 1 b) = c.in_ok-split-in-Split.ensures.ok ∙ ap (with_split p 1) c.in-Split.ensures.1.1 in
     subst (λ (x : BoardState). GrowsBySplits x.log c.split.new.self.log) c.self.view_is (subst (λ (x : BoardState). GrowsBySplits b.log x.log) (sym now) (one_split b.log p))
 
 pub returns-in_ok-split-in-Split-clause-more : goal.returns-in_ok-split-in-Split-clause-more
 returns-in_ok-split-in-Split-clause-more c = λ _.
     let b = c.self.inside.board in
     let p = c.in-Split.leaf.prefix in
-    let now : c.split.new.self ≡ with_split p 1 (with_actor (claiming p) 1 b) = c.in_ok-split-in-Split.ensures.ok ∙ ap (with_split p 1) c.in-Split.ensures.1.1 in
+    let now : c.split.new.self ≡ with_split p 1 (with_actor (with_claim p) 1 b) = c.in_ok-split-in-Split.ensures.ok ∙ ap (with_split p 1) c.in-Split.ensures.1.1 in
     let legal : LegalLog b.settings b.log = subst (λ (x : BoardState). LegalLog x.settings x.log) c.in-Split.ensures.1.1 c.in_ok-split-in-Split.ensures.legal in
     let may : MayFollow b.settings b.log (Split p) = found_wanted b (cells_of b.settings b.log) c.in-Split.leaf c.in-Split.ensures.1.0 in
     let less = less_work b.settings c.self.invariant.limits b.log p (length b.retired) legal may in
-    let fewer : work_left (with_split p 1 (with_actor (claiming p) 1 b)) < work_left b = omega (arith, less, length-append b.retired (p ∷ [])) in
+    let fewer : work_left (with_split p 1 (with_actor (with_claim p) 1 b)) < work_left b = omega (arith, less, length-append b.retired (p ∷ [])) in
     subst (λ (x : BoardState). work_left c.split.new.self < work_left x) c.self.view_is (subst (λ (x : BoardState). work_left x < work_left b) (sym now) fewer)
 
 pub returns-in-Idle-clause-done : goal.returns-in-Idle-clause-done

@@ -4,7 +4,7 @@ use Rattle.mi_base.specs.declared.records.LogEvent.TheVariants.{Update as Made}
 use Rattle.mi_base.specs.declared.records.Update.TheVariants.{Delete}
 use Rattle.mi_base.specs.History.{splits_of, updates_of}
 use Rattle.mi_base.proofs.HistoryLemmas.{length-entered}
-use Rattle.mi_board.specs.Actors.{reserving}
+use Rattle.mi_board.specs.Actors.{with_reserved}
 use Rattle.mi_board.specs.Boards.{BoardState}
 use Rattle.mi_plain.proofs.AnswerLemmas.{absent_answered, delete_answered}
 use Rattle.mi_plain.proofs.UpdateLemmas.{plain_changed}
@@ -18,7 +18,7 @@ returns-then-not-has-clause-answers c =
 pub invariant_of-self-2 : goal.invariant_of-self-2
 invariant_of-self-2 c =
     let s = c.self.inside in
-    plain_changed s.board s.pivots s.entries.entries c.self.invariant c.reserve.new.self (reserving true) 0 c.in-Ok.ensures.1.1
+    plain_changed s.board s.pivots s.entries.entries c.self.invariant c.reserve.new.self (with_reserved true) 0 c.in-Ok.ensures.1.1
 
 pub returns-clause-answers : goal.returns-clause-answers
 returns-clause-answers c =

@@ -12,7 +12,7 @@ use Rattle.mi_base.specs.History.{Object, is_live, live, updates_of}
 use Rattle.mi_base.specs.Permutations.{permutation_of}
 use Rattle.mi_base.proofs.HistoryLemmas.{same_any}
 use Rattle.mi_base.proofs.PivotLemmas.{length-permutation_of}
-use Rattle.mi_board.specs.Actors.{actor_at, claiming, released, reserving}
+use Rattle.mi_board.specs.Actors.{actor_at, with_claim, without_claim, with_reserved}
 use Rattle.mi_board.specs.Boards.{BoardState, MayDelete, with_actor, with_event}
 use Rattle.mi_plain.specs.Plain.{IsKept, object_in}
 use Rattle.mi_plain.proofs.EntryLemmas.{found, all_looked_up, one_entry}
@@ -69,7 +69,7 @@ invariant_of-self c =
     let es = s.entries.entries in
     let p = c.in-Taken.leaf.prefix in
     let gone : lookup (is_at (nat_cmp id)) (remove_entry (is_at (nat_cmp id)) es) ≡ None = ap (lookup (is_at (nat_cmp id))) (sym c.remove.ensures.entries) ∙ c.remove.ensures.updates.1 in
-    let made : c.commit_delete.new.self ≡ with_event (Made 0 c.args.op (Delete id)) (reserving false) 0 (with_actor (claiming p) 0 b) =
-    c.in-Ok.ensures.1.1.1 ∙ ap (with_event (Made 0 c.args.op (Delete id)) (reserving false) 0) c.in-Taken.ensures.1.1 in
+    let made : c.commit_delete.new.self ≡ with_event (Made 0 c.args.op (Delete id)) (with_reserved false) 0 (with_actor (with_claim p) 0 b) =
+    c.in-Ok.ensures.1.1.1 ∙ ap (with_event (Made 0 c.args.op (Delete id)) (with_reserved false) 0) c.in-Taken.ensures.1.1 in
     plain_removed b s.pivots es c.self.invariant c.release_leaf.new.self c.remove.new.self.entries 0 c.args.op id p gone
-    (c.release_leaf.ensures ∙ ap (with_actor released 0) made) c.remove.ensures.entries
+    (c.release_leaf.ensures ∙ ap (with_actor without_claim 0) made) c.remove.ensures.entries

@@ -6,9 +6,9 @@ use Rattle.mi_base.specs.declared.records.Update.TheVariants.{Insert}
 use Rattle.mi_base.specs.Configuration.{Configuration, metric_space, space_of}
 use Rattle.mi_base.specs.Permutations.{distances, permutation_of}
 use Rattle.mi_base.specs.Space.{MetricSpace}
-use Rattle.mi_board.specs.Actors.{reserving}
+use Rattle.mi_board.specs.Actors.{with_reserved}
 use Rattle.mi_board.specs.Boards.{BoardState}
-use Rattle.mi_tree.specs.Counting.{beginning}
+use Rattle.mi_tree.specs.Counting.{leaves_beginning}
 use Rattle.mi_tree.specs.Legal.{cells_of}
 use Rattle.mi_plain.specs.Answering.{GrowsBySplits}
 use Rattle.mi_plain.proofs.AnswerLemmas.{present_answered, insert_answered}
@@ -30,7 +30,7 @@ measure-dists-requires-clause-pivots g c =
 pub invariant_of-self-2 : goal.invariant_of-self-2
 invariant_of-self-2 g c =
     let s = c.self.inside in
-    plain_changed s.board s.pivots s.entries.entries c.self.invariant c.reserve.new.self (reserving true) 0 c.in-Ok.ensures.1.1
+    plain_changed s.board s.pivots s.entries.entries c.self.invariant c.reserve.new.self (with_reserved true) 0 c.in-Ok.ensures.1.1
 
 pub entry-entry-requires-clause-found : goal.entry-entry-requires-clause-found
 entry-entry-requires-clause-found g c =
@@ -43,7 +43,7 @@ entry-entry-requires-clause-found g c =
     c.measure-dists.ensures.distances ∙ ap (λ (m : MetricSpace). distances (record { metric = m; pivots = c.self.inside.pivots }) v) c.requires.space
     ∙ ap (λ (ps : List (List ℤ)). distances (record { metric = metric_space s.settings; pivots = ps }) v) pivots ∙ ap (λ (k : Configuration). distances (space_of k) v) (sym settings) in
     let perm : c.permutation-perm.result ≡ permutation_of (distances (space_of new.settings) v) = c.permutation-perm.ensures.value ∙ ap (λ (ds : List ℕ). permutation_of ds) measured in
-    subst (λ (p : List ℕ). beginning p (cells_of new.settings new.log) ≡ c.in-Ok-claim_uncrowded.leaf ∷ []) perm c.in-Ok-claim_uncrowded.ensures.found
+    subst (λ (p : List ℕ). leaves_beginning p (cells_of new.settings new.log) ≡ c.in-Ok-claim_uncrowded.leaf ∷ []) perm c.in-Ok-claim_uncrowded.ensures.found
 
 pub store-requires-clause-may : goal.store-requires-clause-may
 store-requires-clause-may g c =

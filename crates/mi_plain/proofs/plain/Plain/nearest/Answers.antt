@@ -16,16 +16,16 @@ use Rattle.mi_key.specs.declared.entries.Entry.{Entry}
 use Rattle.mi_key.specs.Keys.{parts_of}
 use Rattle.mi_key.specs.Ranges.{is_within}
 use Rattle.mi_nearest.specs.declared.order.Rank.{Rank}
-use Rattle.mi_nearest.specs.Nearing.{Takes}
+use Rattle.mi_nearest.specs.Nearing.{TakesNearest}
 use Rattle.mi_nearest.specs.Order.{IsRank, leaves_at, rank_cmp}
 use Rattle.mi_nearest.proofs.WalkLemmas.{StopsAt, all_later, all_walked, few_done, next_at, stops_later, sum_next}
 use Rattle.mi_rules.specs.Spans.{is_near}
 use Rattle.mi_tree.specs.declared.outcomes.Leaf.{Leaf}
-use Rattle.mi_tree.specs.Catalogs.{Cells}
+use Rattle.mi_tree.specs.Catalog.{CatalogState}
 use Rattle.mi_tree.specs.Legal.{cells_of}
 use Rattle.mi_tree.specs.Passing.{kth_distance, reached_objects}
 use Rattle.mi_plain.specs.Answering.{Answers, WorksNearest}
-use Rattle.mi_plain.specs.Opening.{AreMeasured, offerings, spanned}
+use Rattle.mi_plain.specs.Opening.{AreMeasured, offerings, entries_in_span}
 use Rattle.mi_plain.specs.Plain.{IsKept, object_in}
 use Rattle.mi_plain.proofs.NearestLemmas.{cells_below, goes_on, nearest_answered, ranked_here, stops_here, walk_step}
 use Rattle.mi_plain.proofs.OpenedLemmas.{few_cells, leaf_fits}
@@ -37,7 +37,7 @@ use Rattle.mi_plain.proofs.plain.Plain.nearest.Goals.{else-loop-rank-test, then-
 pub ranked-requires : goal.ranked-requires
 ranked-requires g c =
     let s = c.args.self.now in
-    let leaves = ap (λ (k : Cells). k.leaves) c.catalog-catalog.ensures ∙ ap (λ (x : BoardState). cells_of x.settings x.log) c.self.view_is in
+    let leaves = ap (λ (k : CatalogState). k.leaves) c.catalog-catalog.ensures ∙ ap (λ (x : BoardState). cells_of x.settings x.log) c.self.view_is in
     let count : length c.measure-dists.result.items ≡ length s.settings.pivots = c.measure-dists.ensures.count ∙ ap length c.self.invariant.pivots_are ∙ ap (λ (x : BoardState). length x.settings.pivots) c.self.view_is in
     record { pivots = cells_below s.settings c.end-at.ensures.limits s.log c.end-at.ensures.legal c.args.query.now c.requires.fits (subst IsMetric c.requires.space (g.met.M.Metric.laws c.args.metric.now)) (length c.measure-dists.result.items) count c.catalog-catalog.result.now.leaves leaves }
 
@@ -47,7 +47,7 @@ overflow_add-opened g c =
     let k = s.settings in
     let query = c.args.query.now in
     let cells = cells_of k s.log in
-    let leaves = ap (λ (x : Cells). x.leaves) c.catalog-catalog.ensures ∙ ap (λ (x : BoardState). cells_of x.settings x.log) c.self.view_is in
+    let leaves = ap (λ (x : CatalogState). x.leaves) c.catalog-catalog.ensures ∙ ap (λ (x : BoardState). cells_of x.settings x.log) c.self.view_is in
     let pivots : c.self.inside.pivots ≡ k.pivots = c.self.invariant.pivots_are ∙ ap (λ (x : BoardState). x.settings.pivots) c.self.view_is in
     let dq = measured_by k _ c.self.inside.pivots query c.measure-dists.result.items c.measure-dists.ensures.distances c.requires.space pivots in
     let items = c.deref-rank-items.result.now in
@@ -65,7 +65,7 @@ leaf-leaf-requires g c =
     let k = s.settings in
     let query = c.args.query.now in
     let cells = cells_of k s.log in
-    let leaves = ap (λ (x : Cells). x.leaves) c.catalog-catalog.ensures ∙ ap (λ (x : BoardState). cells_of x.settings x.log) c.self.view_is in
+    let leaves = ap (λ (x : CatalogState). x.leaves) c.catalog-catalog.ensures ∙ ap (λ (x : BoardState). cells_of x.settings x.log) c.self.view_is in
     let pivots : c.self.inside.pivots ≡ k.pivots = c.self.invariant.pivots_are ∙ ap (λ (x : BoardState). x.settings.pivots) c.self.view_is in
     let dq = measured_by k _ c.self.inside.pivots query c.measure-dists.result.items c.measure-dists.ensures.distances c.requires.space pivots in
     let items = c.deref-rank-items.result.now in
@@ -85,7 +85,7 @@ pub near_span-requires-clause-pivots : goal.near_span-requires-clause-pivots
 near_span-requires-clause-pivots g c =
     let s = c.args.self.now in
     let leaf = c.leaf-leaf.result.now in
-    let same = ap (λ (k : Cells). k.leaves) c.catalog-catalog.ensures ∙ ap (λ (x : BoardState). cells_of x.settings x.log) c.self.view_is in
+    let same = ap (λ (k : CatalogState). k.leaves) c.catalog-catalog.ensures ∙ ap (λ (x : BoardState). cells_of x.settings x.log) c.self.view_is in
     let fits = leaf_fits s.settings c.end-at.ensures.limits s.log c.end-at.ensures.legal c.catalog-catalog.result.now.leaves same _ leaf c.leaf-leaf.ensures in
     let count : length c.measure-dists.result.items ≡ length s.settings.pivots = c.measure-dists.ensures.count ∙ ap length c.self.invariant.pivots_are ∙ ap (λ (x : BoardState). length x.settings.pivots) c.self.view_is in
     subst (λ (n : ℕ). IsTrue (all_below n leaf.prefix)) (sym count) fits.1
@@ -94,7 +94,7 @@ pub near_span-requires-clause-depth : goal.near_span-requires-clause-depth
 near_span-requires-clause-depth g c =
     let s = c.args.self.now in
     let leaf = c.leaf-leaf.result.now in
-    let same = ap (λ (k : Cells). k.leaves) c.catalog-catalog.ensures ∙ ap (λ (x : BoardState). cells_of x.settings x.log) c.self.view_is in
+    let same = ap (λ (k : CatalogState). k.leaves) c.catalog-catalog.ensures ∙ ap (λ (x : BoardState). cells_of x.settings x.log) c.self.view_is in
     let fits = leaf_fits s.settings c.end-at.ensures.limits s.log c.end-at.ensures.legal c.catalog-catalog.result.now.leaves same _ leaf c.leaf-leaf.ensures in
     let levels : c.settings.inside.levels ≡ s.settings.levels = ap (λ (x : Configuration). x.levels) (c.settings.view_is ∙ c.settings-settings.ensures) ∙ ap (λ (x : BoardState). x.settings.levels) c.self.view_is in
     subst (λ (n : ℕ). length leaf.prefix ≤ n) (sym levels) fits.0
@@ -117,7 +117,7 @@ loop-rank-preserved g c =
     let k = s.settings in
     let query = c.args.query.now in
     let cells = cells_of k s.log in
-    let leaves = ap (λ (x : Cells). x.leaves) c.catalog-catalog.ensures ∙ ap (λ (x : BoardState). cells_of x.settings x.log) c.self.view_is in
+    let leaves = ap (λ (x : CatalogState). x.leaves) c.catalog-catalog.ensures ∙ ap (λ (x : BoardState). cells_of x.settings x.log) c.self.view_is in
     let pivots : c.self.inside.pivots ≡ k.pivots = c.self.invariant.pivots_are ∙ ap (λ (x : BoardState). x.settings.pivots) c.self.view_is in
     let dq = measured_by k _ c.self.inside.pivots query c.measure-dists.result.items c.measure-dists.ensures.distances c.requires.space pivots in
     let items = c.deref-rank-items.result.now in
@@ -145,7 +145,7 @@ loop-rank-preserved g c =
     let Read : List ℕ → Option ℕ → ℕ → Type 0 = λ ds w l. IfSome leaf.hull (λ hull. (key : ℕ) → is_within span key ≡ is_near ds w l leaf.prefix hull (parts_of key)) in
     let read : Read (distances (space_of k) query) worst k.levels =
     subst (λ (ds : List ℕ). Read ds worst k.levels) dq (subst (λ (w : Option ℕ). Read c.measure-dists.result.items w k.levels) worst_is (subst (Read c.measure-dists.result.items c.worst.result) levels c.in-Some.ensures.some)) in
-    let takes = subst (λ (m : MetricSpace). Takes m query work c.loop-rank.steps (offerings (spanned span es)) c.offer_nearest.new.work c.offer_nearest.new.steps) c.requires.space c.in-Ok-offer_nearest.ensures in
+    let takes = subst (λ (m : MetricSpace). TakesNearest m query work c.loop-rank.steps (offerings (entries_in_span span es)) c.offer_nearest.new.work c.offer_nearest.new.steps) c.requires.space c.in-Ok-offer_nearest.ensures in
     let whole : items ≡ done ++ r ∷ found.0 = parts ∙ ap (λ (xs : List Rank). done ++ xs) found.1 in
     let step = walk_step k c.end-at.ensures.limits s.log c.end-at.ensures.legal query c.requires.fits metric es kept same c.args.count c.requires.some items done found.0 r ranked whole leaf at work c.offer_nearest.new.work
     c.loop-rank.steps c.offer_nearest.new.steps span count_is c.loop-rank.invariant.walked next read takes in
@@ -170,7 +170,7 @@ stopped g c =
     let k = s.settings in
     let query = c.args.query.now in
     let cells = cells_of k s.log in
-    let leaves = ap (λ (x : Cells). x.leaves) c.catalog-catalog.ensures ∙ ap (λ (x : BoardState). cells_of x.settings x.log) c.self.view_is in
+    let leaves = ap (λ (x : CatalogState). x.leaves) c.catalog-catalog.ensures ∙ ap (λ (x : BoardState). cells_of x.settings x.log) c.self.view_is in
     let pivots : c.self.inside.pivots ≡ k.pivots = c.self.invariant.pivots_are ∙ ap (λ (x : BoardState). x.settings.pivots) c.self.view_is in
     let dq = measured_by k _ c.self.inside.pivots query c.measure-dists.result.items c.measure-dists.ensures.distances c.requires.space pivots in
     let items = c.deref-rank-items.result.now in
@@ -202,7 +202,7 @@ both g c =
     let k = s.settings in
     let query = c.args.query.now in
     let cells = cells_of k s.log in
-    let leaves = ap (λ (x : Cells). x.leaves) c.catalog-catalog.ensures ∙ ap (λ (x : BoardState). cells_of x.settings x.log) c.self.view_is in
+    let leaves = ap (λ (x : CatalogState). x.leaves) c.catalog-catalog.ensures ∙ ap (λ (x : BoardState). cells_of x.settings x.log) c.self.view_is in
     let pivots : c.self.inside.pivots ≡ k.pivots = c.self.invariant.pivots_are ∙ ap (λ (x : BoardState). x.settings.pivots) c.self.view_is in
     let dq = measured_by k _ c.self.inside.pivots query c.measure-dists.result.items c.measure-dists.ensures.distances c.requires.space pivots in
     let items = c.deref-rank-items.result.now in

@@ -13,9 +13,9 @@ use Rattle.mi_base.specs.Sorting.{SameElements}
 use Rattle.mi_board.specs.Boards.{BoardState}
 use Rattle.mi_key.specs.declared.entries.Entry.{Entry}
 use Rattle.mi_tree.specs.declared.outcomes.Leaf.{Leaf}
-use Rattle.mi_tree.specs.Catalogs.{Cells}
+use Rattle.mi_tree.specs.Catalog.{CatalogState}
 use Rattle.mi_tree.specs.Legal.{cells_of}
-use Rattle.mi_tree.specs.Passing.{opened, passes}
+use Rattle.mi_tree.specs.Passing.{opened_count, passes}
 use Rattle.mi_plain.specs.Answering.{Answers, Works}
 use Rattle.mi_plain.specs.Opening.{AreMeasured}
 use Rattle.mi_plain.specs.Plain.{IsKept, object_in}
@@ -30,7 +30,7 @@ pub passes-requires : goal.passes-requires
 passes-requires g c =
     let s = c.args.self.now in
     let leaf = c.leaf-leaf.result.now in
-    let same = ap (λ (k : Cells). k.leaves) c.catalog-catalog.ensures ∙ ap (λ (x : BoardState). cells_of x.settings x.log) c.self.view_is in
+    let same = ap (λ (k : CatalogState). k.leaves) c.catalog-catalog.ensures ∙ ap (λ (x : BoardState). cells_of x.settings x.log) c.self.view_is in
     let fits = leaf_fits s.settings c.end-at.ensures.limits s.log c.end-at.ensures.legal c.catalog-catalog.result.now.leaves same c.loop-place.place leaf c.leaf-leaf.ensures in
     let count : length c.measure-dists.result.items ≡ length s.settings.pivots = c.measure-dists.ensures.count ∙ ap length c.self.invariant.pivots_are ∙ ap (λ (x : BoardState). length x.settings.pivots) c.self.view_is in
     subst (λ (n : ℕ). IsTrue (all_below n leaf.prefix)) (sym count) fits.1
@@ -38,7 +38,7 @@ passes-requires g c =
 pub overflow_add-opened : goal.overflow_add-opened
 overflow_add-opened g c =
     let s = c.args.self.now in
-    let same = ap (λ (k : Cells). k.leaves) c.catalog-catalog.ensures ∙ ap (λ (x : BoardState). cells_of x.settings x.log) c.self.view_is in
+    let same = ap (λ (k : CatalogState). k.leaves) c.catalog-catalog.ensures ∙ ap (λ (x : BoardState). cells_of x.settings x.log) c.self.view_is in
     let few = few_cells s.settings c.end-at.ensures.limits s.log c.end-at.ensures.legal in
     let within = c.loop-place-test.true in
     let counted = c.loop-place.invariant.few in
@@ -48,7 +48,7 @@ pub span-span-requires-clause-pivots : goal.span-span-requires-clause-pivots
 span-span-requires-clause-pivots g c =
     let s = c.args.self.now in
     let leaf = c.leaf-leaf.result.now in
-    let same = ap (λ (k : Cells). k.leaves) c.catalog-catalog.ensures ∙ ap (λ (x : BoardState). cells_of x.settings x.log) c.self.view_is in
+    let same = ap (λ (k : CatalogState). k.leaves) c.catalog-catalog.ensures ∙ ap (λ (x : BoardState). cells_of x.settings x.log) c.self.view_is in
     let fits = leaf_fits s.settings c.end-at.ensures.limits s.log c.end-at.ensures.legal c.catalog-catalog.result.now.leaves same c.loop-place.place leaf c.leaf-leaf.ensures in
     let count : length c.measure-dists.result.items ≡ length s.settings.pivots = c.measure-dists.ensures.count ∙ ap length c.self.invariant.pivots_are ∙ ap (λ (x : BoardState). length x.settings.pivots) c.self.view_is in
     subst (λ (n : ℕ). IsTrue (all_below n leaf.prefix)) (sym count) fits.1
@@ -57,7 +57,7 @@ pub span-span-requires-clause-depth : goal.span-span-requires-clause-depth
 span-span-requires-clause-depth g c =
     let s = c.args.self.now in
     let leaf = c.leaf-leaf.result.now in
-    let same = ap (λ (k : Cells). k.leaves) c.catalog-catalog.ensures ∙ ap (λ (x : BoardState). cells_of x.settings x.log) c.self.view_is in
+    let same = ap (λ (k : CatalogState). k.leaves) c.catalog-catalog.ensures ∙ ap (λ (x : BoardState). cells_of x.settings x.log) c.self.view_is in
     let fits = leaf_fits s.settings c.end-at.ensures.limits s.log c.end-at.ensures.legal c.catalog-catalog.result.now.leaves same c.loop-place.place leaf c.leaf-leaf.ensures in
     let levels : c.settings.inside.levels ≡ s.settings.levels = ap (λ (x : Configuration). x.levels) (c.settings.view_is ∙ c.settings-settings.ensures) ∙ ap (λ (x : BoardState). x.settings.levels) c.self.view_is in
     subst (λ (n : ℕ). length leaf.prefix ≤ n) (sym levels) fits.0
@@ -83,7 +83,7 @@ loop-place-preserved g c =
     let es = c.self.inside.entries.entries in
     let leaf = c.leaf-leaf.result.now in
     let cells = cells_of s.settings s.log in
-    let same = ap (λ (k : Cells). k.leaves) c.catalog-catalog.ensures ∙ ap (λ (x : BoardState). cells_of x.settings x.log) c.self.view_is in
+    let same = ap (λ (k : CatalogState). k.leaves) c.catalog-catalog.ensures ∙ ap (λ (x : BoardState). cells_of x.settings x.log) c.self.view_is in
     let here = subst (λ (ls : List Leaf). slice_get ls c.loop-place.place ≡ Some leaf) same c.leaf-leaf.ensures in
     let one = counted_more (passes dq c.args.radius) cells c.loop-place.place leaf here c.passes.result (sym c.passes.ensures) in
     let so_far = c.loop-place.invariant.counted in
@@ -128,7 +128,7 @@ both g c =
     let levels : c.settings.inside.levels ≡ k.levels = ap (λ (x : Configuration). x.levels) (c.settings.view_is ∙ c.settings-settings.ensures) ∙ ap (λ (x : BoardState). x.settings.levels) c.self.view_is in
     let dq : c.measure-dists.result.items ≡ distances (space_of k) query =
     measured_by k _ c.self.inside.pivots query c.measure-dists.result.items c.measure-dists.ensures.distances c.requires.space pivots in
-    let leaves = ap (λ (x : Cells). x.leaves) c.catalog-catalog.ensures ∙ ap (λ (x : BoardState). cells_of x.settings x.log) c.self.view_is in
+    let leaves = ap (λ (x : CatalogState). x.leaves) c.catalog-catalog.ensures ∙ ap (λ (x : BoardState). cells_of x.settings x.log) c.self.view_is in
     let whole : length cells ≤ c.loop-place.place = omega (arith, c.loop-place-test.false, c.len-place-end.ensures, ap length leaves) in
     let taken = taken_all k s.log query radius es M c.measure-dists.result.items c.settings.inside.levels c.loop-place.place c.new-work.result c.loop-place.work c.measure-dists.new.steps c.loop-place.steps c.requires.space dq levels whole c.loop-place.invariant.takes in
     let first_dists = c.new-work.ensures.dists ∙ dq in
@@ -136,7 +136,7 @@ both g c =
     let metric : IsMetric (metric_space k) = subst IsMetric c.requires.space (g.met.M.Metric.laws c.args.metric.now) in
     let rows = taken_rows k limits s.log legal query radius es kept same c.new-work.result c.loop-place.work c.measure-dists.new.steps c.loop-place.steps first_dists c.new-work.ensures.radius taken metric c.requires.fits c.new-work.ensures.rows in
     let work = taken_distances k limits s.log legal query radius es kept same c.new-work.result c.loop-place.work c.measure-dists.new.steps c.loop-place.steps first_dists c.new-work.ensures.radius taken begun in
-    let opened_are : c.loop-place.opened ≡ opened (space_of k) k.levels s.log query radius =
+    let opened_are : c.loop-place.opened ≡ opened_count (space_of k) k.levels s.log query radius =
     c.loop-place.invariant.counted ∙ ap (λ (ls : List Leaf). count_by (passes c.measure-dists.result.items radius) ls) (take_all c.loop-place.place cells whole) ∙ ap (λ (ds : List ℕ). count_by (passes ds radius) cells) dq in
     let ticks = taken_steps k limits s.log legal query radius es kept same c.new-work.result c.loop-place.work c.measure-dists.new.steps c.loop-place.steps first_dists c.new-work.ensures.radius taken in (
       λ op. subst (λ (y : Reply). Answers k s.log 0 op (Range radius query) y s.log) (sym c.finish.ensures)

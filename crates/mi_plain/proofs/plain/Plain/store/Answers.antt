@@ -3,7 +3,7 @@ use Rattle.mi_base.specs.declared.records.LogEvent.TheVariants.{Update as Made}
 use Rattle.mi_base.specs.declared.records.Update.TheVariants.{Insert}
 use Rattle.mi_base.specs.Permutations.{permutation_of}
 use Rattle.mi_base.proofs.PivotLemmas.{length-permutation_of}
-use Rattle.mi_board.specs.Actors.{released, reserving}
+use Rattle.mi_board.specs.Actors.{without_claim, with_reserved}
 use Rattle.mi_board.specs.Boards.{BoardState, Commits, HasRoom, crowded_at, with_actor, with_event}
 use Rattle.mi_plain.specs.Plain.{IsKept, IsPlain}
 use Rattle.mi_base.specs.History.{is_live, updates_of}
@@ -19,7 +19,7 @@ pub invariant_of-self : goal.invariant_of-self
 invariant_of-self c =
     let s = c.self.inside in
     subst (λ es. IsPlain c.release_leaf.new.self s.pivots es) (sym c.in_default.ensures.err)
-    (plain_changed s.board s.pivots s.entries.entries c.self.invariant c.release_leaf.new.self released 0 c.release_leaf.ensures)
+    (plain_changed s.board s.pivots s.entries.entries c.self.invariant c.release_leaf.new.self without_claim 0 c.release_leaf.ensures)
 
 pub unreachable-requires : goal.unreachable-requires
 unreachable-requires c =
@@ -40,7 +40,7 @@ invariant_of-self-2 c =
     let b = s.board in
     let absent : is_live c.args.id (updates_of b.log) ≡ false = ap (λ (x : BoardState). is_live c.args.id (updates_of x.log)) c.self.view_is ∙ c.requires.object.absent in
     let kept : IsKept b.settings b.log c.args.id e = subst (λ (x : BoardState). IsKept x.settings x.log c.args.id e) (sym c.self.view_is) c.requires.kept in
-    let made : c.commit_insert.new.self ≡ with_event (Made 0 c.args.op (Insert c.args.id e.vector)) (reserving false) 0 b =
-    c.in-Ok-commit_insert.ensures.1.1.1 ∙ ap (λ v. with_event (Made 0 c.args.op (Insert c.args.id v)) (reserving false) 0 b) c.copy-vector.ensures in
+    let made : c.commit_insert.new.self ≡ with_event (Made 0 c.args.op (Insert c.args.id e.vector)) (with_reserved false) 0 b =
+    c.in-Ok-commit_insert.ensures.1.1.1 ∙ ap (λ v. with_event (Made 0 c.args.op (Insert c.args.id v)) (with_reserved false) 0 b) c.copy-vector.ensures in
     plain_inserted b s.pivots s.entries.entries c.self.invariant c.release_leaf-2.new.self c.insert.new.self.entries 0 c.args.op c.args.id e absent kept
-    (c.release_leaf-2.ensures ∙ ap (with_actor released 0) made) c.in-Ok.ensures.entries
+    (c.release_leaf-2.ensures ∙ ap (with_actor without_claim 0) made) c.in-Ok.ensures.entries

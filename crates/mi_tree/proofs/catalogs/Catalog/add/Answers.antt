@@ -2,8 +2,8 @@ use Rattle.std.proofs.Common.{◌≡◌, ◌∙◌, sym, ap, ◌<◌, length, Li
 use Rattle.std.specs.Prelude.{slice_get, slice_set, IfSome}
 use Rattle.mi_base.specs.Permutations.{begins}
 use Rattle.mi_tree.specs.declared.outcomes.Leaf.{Leaf}
-use Rattle.mi_tree.specs.Counting.{added, beginning}
-use Rattle.mi_tree.specs.Catalogs.{Cells, IsCatalog}
+use Rattle.mi_tree.specs.Counting.{with_added, leaves_beginning}
+use Rattle.mi_tree.specs.Catalog.{CatalogState, IsCatalog}
 use Rattle.mi_tree.proofs.CatalogLemmas.{prefixes_kept, added_at}
 use Rattle.mi_tree.proofs.catalogs.Catalog.add.Goals as goal
 
@@ -11,7 +11,7 @@ pub invariant_of-self : goal.invariant_of-self
 invariant_of-self c =
     let ls = c.self.inside.leaves.items in
     let place = c.place_of-place.result in
-    let lt : place < length ls = subst (λ (v : Cells). place < length v.leaves) (sym c.self.view_is) c.place_of-place.ensures.within in
+    let lt : place < length ls = subst (λ (v : CatalogState). place < length v.leaves) (sym c.self.view_is) c.place_of-place.ensures.within in
     let kept = prefixes_kept ls place c.index_mut.result.now c.put.new.leaf lt c.index_mut.ensures.value (ap (λ (l : Leaf). l.prefix) c.put.ensures) in
     subst (IsCatalog c.self.inside.pivots c.self.inside.levels) (sym kept) c.self.invariant
 
@@ -22,9 +22,9 @@ returns c =
     let old = c.index_mut.result.now in
     let new = c.put.new.leaf in
     let place = c.place_of-place.result in
-    let lt : place < length ls = subst (λ (v : Cells). place < length v.leaves) (sym c.self.view_is) c.place_of-place.ensures.within in
-    let found : IfSome (slice_get ls place) (λ x. begins x.prefix perm ≡ true) = subst (λ (v : Cells). IfSome (slice_get v.leaves place) (λ x. begins x.prefix perm ≡ true)) (sym c.self.view_is) c.place_of-place.ensures.begins in
-    let one : length (beginning perm ls) ≡ 1 = subst (λ (v : Cells). length (beginning perm v.leaves) ≡ 1) (sym c.self.view_is) c.place_of-place.ensures.one in
-    let now : slice_set ls place new ≡ map (added c.args.perm.now c.args.distance) ls = added_at perm ls place old new lt c.index_mut.ensures.value found one c.args.distance c.put.ensures in
+    let lt : place < length ls = subst (λ (v : CatalogState). place < length v.leaves) (sym c.self.view_is) c.place_of-place.ensures.within in
+    let found : IfSome (slice_get ls place) (λ x. begins x.prefix perm ≡ true) = subst (λ (v : CatalogState). IfSome (slice_get v.leaves place) (λ x. begins x.prefix perm ≡ true)) (sym c.self.view_is) c.place_of-place.ensures.begins in
+    let one : length (leaves_beginning perm ls) ≡ 1 = subst (λ (v : CatalogState). length (leaves_beginning perm v.leaves) ≡ 1) (sym c.self.view_is) c.place_of-place.ensures.one in
+    let now : slice_set ls place new ≡ map (with_added c.args.perm.now c.args.distance) ls = added_at perm ls place old new lt c.index_mut.ensures.value found one c.args.distance c.put.ensures in
     ap (λ (xs : List Leaf). record { pivots = c.self.inside.pivots; levels = c.self.inside.levels; leaves = xs }) now
-    ∙ ap (λ (v : Cells). record { pivots = v.pivots; levels = v.levels; leaves = map (added c.args.perm.now c.args.distance) v.leaves }) c.self.view_is
+    ∙ ap (λ (v : CatalogState). record { pivots = v.pivots; levels = v.levels; leaves = map (with_added c.args.perm.now c.args.distance) v.leaves }) c.self.view_is

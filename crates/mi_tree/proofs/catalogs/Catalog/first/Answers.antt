@@ -3,7 +3,7 @@ use Rattle.std.proofs.lemmas.Bool.{eq-eqb, eqb-true, false_from_ne_true}
 use Rattle.mi_tree.specs.declared.outcomes.Leaf.{Leaf}
 use Rattle.mi_tree.specs.Cells.{children, first_leaves}
 use Rattle.mi_tree.specs.Counting.{leaf_among}
-use Rattle.mi_tree.specs.Catalogs.{prefixes, IsCatalog}
+use Rattle.mi_tree.specs.Catalog.{prefixes_of, IsCatalog}
 use Rattle.mi_tree.proofs.CatalogLemmas.{first_is, prefixes_among}
 use Rattle.mi_tree.proofs.catalogs.Catalog.first.Goals as goal
 use Rattle.mi_tree.proofs.catalogs.Catalog.first.Goals.{then-pivots-eq0+in_ok-push, else-pivots-eq0+in_ok-push_children}
@@ -26,4 +26,4 @@ invariant_of-result c =
           ∙ ap (λ (q : List ℕ). map (leaf_among []) (children n q)) c.empty-root.ensures
           ∙ sym (rw more refl)
     ] in
-    subst (IsCatalog n c.args.levels) (sym (ap prefixes is ∙ prefixes_among [] (first_leaves n))) (first_is n c.args.levels c.requires.few c.requires.depth)
+    subst (IsCatalog n c.args.levels) (sym (ap prefixes_of is ∙ prefixes_among [] (first_leaves n))) (first_is n c.args.levels c.requires.few c.requires.depth)
