@@ -1,5 +1,5 @@
 -- What holds of every board holds after each event.
-use Rattle.std.proofs.Common.{◌≡◌, ℕ, ℤ, ◌*◌, ◌<◌, ◌≤◌, List, [], ◌∷◌, ◌++◌, map, length, true, false, IsTrue, refl, sym, ap, ◌∙◌, subst, arith, not, ◌&&◌}
+use Rattle.std.proofs.Common.{◌^◌, ◌≡◌, ℕ, ℤ, ◌*◌, ◌<◌, ◌≤◌, List, [], ◌∷◌, ◌++◌, map, length, true, false, IsTrue, refl, sym, ap, ◌∙◌, subst, arith, not, ◌&&◌}
 use Rattle.std.specs.Prelude.{◌==◌}
 use Rattle.std.proofs.lemmas.Nat.{mul-le}
 use Rattle.std.proofs.lemmas.Bool.{eq-eqb}
@@ -56,12 +56,12 @@ module _ (c : Configuration) (limits : IsWithinLimits c) (log : List LogEvent) (
 
   module _ (session op id : ℕ) (v : List ℤ) where
     -- an insert into a leaf that isn't crowded
-    pub insert_legal : IsTrue ((metric_space c).fits v) → is_live id (updates_of log) ≡ false → length (updates_of log) < c.updates
+    pub insert_legal : IsTrue ((metric_space c).fits v) → is_live id (updates_of log) ≡ false → id < 2 ^ 40 → length (updates_of log) < c.updates
         → list_any (λ l. begins l.prefix ((grid c).perm v) && is_crowded c.levels c.cell l) (cells_of c log) ≡ false → LegalLog c (log ++ Made session op (Insert id v) ∷ [])
-    insert_legal fits absent room free =
+    insert_legal fits absent named room free =
         let few = ap (list_any (is_overfull c.levels c.cell)) (cat-insert (grid c) log session op id v)
         ∙ added_fits ((grid c).perm v) ((grid c).distance v) c.levels c.cell (cells_of c log) uncrowded free in
-        legal_more c log (Made session op (Insert id v)) legal (fits, absent) few (omega (arith, room, length-entered log session op (Insert id v)))
+        legal_more c log (Made session op (Insert id v)) legal (fits, absent, named) few (omega (arith, room, length-entered log session op (Insert id v)))
 
   module _ (id : ℕ) (one : TheOne id (live (updates_of log))) where
     whole : SameElements (live (updates_of log)) (one.object ∷ filter (λ x. not (x.id == one.object.id)) (live (updates_of log)))

@@ -1,5 +1,5 @@
 -- What holds of every board holds after each call.
-use Rattle.std.proofs.Common.{◌≡◌, ℕ, ℤ, suc, zero, ◌+◌, ◌<◌, ◌≤◌, List, [], ◌∷◌, ◌++◌, map, length, true, false, refl, sym, ap, ◌∙◌, subst, arith, length-append}
+use Rattle.std.proofs.Common.{◌≡◌, ℕ, ℤ, suc, zero, ◌+◌, ◌<◌, ◌^◌, ◌≤◌, List, [], ◌∷◌, ◌++◌, map, length, true, false, refl, sym, ap, ◌∙◌, subst, arith, length-append}
 use Rattle.std.specs.Prelude.{replicate}
 use Rattle.std.proofs.lemmas.List.{length-replicate}
 use Rattle.std.specs.List.{flat_map}
@@ -63,14 +63,14 @@ module _ (c : Configuration) (log : List LogEvent) (catalog : CatalogState) (upd
   -- one event more, that the actor made
   module _ (actor : ℕ) (log' : List LogEvent) (catalog' : CatalogState) (actors' : List ActorState) (room' : ℕ) (more : room ≤ room') (retired : List (List ℕ)) where
     pub insert_board : (op id : ℕ) (v : List ℤ) (perm : List ℕ) (distance : ℕ) → MayCommit (state c log actors retired) actor perm → MayInsert (state c log actors retired) id v perm distance
-        → updates < c.updates → crowded_at (state c log actors retired) perm ≡ false
+        → id < 2 ^ 40 → updates < c.updates → crowded_at (state c log actors retired) perm ≡ false
         → log' ≡ log ++ Made actor op (Insert id v) ∷ [] → catalog' ≡ record { pivots = catalog.pivots; levels = catalog.levels; leaves = map (with_added perm distance) catalog.leaves }
         → actors' ≡ change (with_reserved false) actor actors → IsBoard c log' catalog' (updates + 1) actors' room'
-    insert_board op id v perm distance may object few free log_is catalog_is actors_is =
+    insert_board op id v perm distance may object named few free log_is catalog_is actors_is =
         let e = Made actor op (Insert id v) in
         let g = grid c in
         let calm = subst (λ (q : List ℕ). crowded_at (state c log actors retired) q ≡ false) object.perm_is free in
-        let legal : LegalLog c (log ++ e ∷ []) = insert_legal c ib.limits log ib.legal actor op id v object.fits object.absent (omega (arith, few, ib.counted)) calm in
+        let legal : LegalLog c (log ++ e ∷ []) = insert_legal c ib.limits log ib.legal actor op id v object.fits object.absent named (omega (arith, few, ib.counted)) calm in
         let now : map (with_added perm distance) (cells_of c log) ≡ cells_of c (log ++ e ∷ []) =
         ap (λ (q : List ℕ). map (with_added q distance) (cells_of c log)) object.perm_is ∙ ap (λ (d : ℕ). map (with_added (g.perm v) d) (cells_of c log)) object.distance_is ∙ sym (cat-insert g log actor op id v) in
         let keep : (q : List ℕ) → has_leaf q (cells_of c log) ≡ true → has_leaf q (cells_of c (log ++ e ∷ [])) ≡ true = λ q h.

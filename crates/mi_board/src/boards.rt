@@ -180,6 +180,8 @@ impl Board {
         requires object { MayInsert self.old id vector.now perm.now distance }
         ensures { Commits self.old actor op (Insert id vector.now) (crowded_at self.old perm.now) result self.new }
     {
+        // An identifier tells its bound, which the legal log keeps.
+        let _ = id.get();
         let limit = limit_of(&self.settings);
         if self.updates >= limit {
             return Err(CommitRefusal::Full { limit });

@@ -13,7 +13,7 @@ use Rattle.mi_base.specs.Sorting.{Ascends, sorted}
 use Rattle.mi_base.proofs.HistoryLemmas.{row_total}
 use Rattle.mi_base.proofs.SortingLemmas.{same_length, same_sorted, sorted_ascends}
 use Rattle.mi_rules.proofs.RuleLemmas.{not_less}
-use Rattle.mi_tree.specs.Passing.{kth_distance, last_distance}
+use Rattle.mi_rules.specs.Passing.{kth_distance, last_distance}
 use Rattle.mi_nearest.specs.Nearing.{first_rows}
 use Rattle.mi_nearest.proofs.FirstLemmas.{farther_kth}
 

@@ -19,7 +19,7 @@ use Rattle.mi_base.proofs.SortingLemmas.{sorted_ascends, sorted_of_same}
 use Rattle.mi_key.specs.Entries.{Offering}
 use Rattle.mi_rules.specs.Answers.{Measured}
 use Rattle.mi_rules.proofs.RuleLemmas.{not_less, refused_far}
-use Rattle.mi_tree.specs.Passing.{kth_distance, last_distance}
+use Rattle.mi_rules.specs.Passing.{kth_distance, last_distance}
 use Rattle.mi_nearest.specs.Nearing.{Nearing, TakesNearest, first_rows, may_be_near, worst_of}
 
 take_take : {X : Type 0} (k : ℕ) (xs : List X) → take k (take (suc k) xs) ≡ take k xs

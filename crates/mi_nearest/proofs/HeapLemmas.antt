@@ -15,7 +15,7 @@ use Rattle.mi_base.specs.History.{row_cmp}
 use Rattle.mi_base.specs.Sorting.{Ascends, SameElements, put, sorted}
 use Rattle.mi_base.proofs.HistoryLemmas.{row_exact, row_total, same_all}
 use Rattle.mi_base.proofs.SortingLemmas.{ascending_unique, same_length, same_permutation, same_sorted, sorted_ascends, sorted_of_same}
-use Rattle.mi_tree.specs.Passing.{last_distance}
+use Rattle.mi_rules.specs.Passing.{last_distance}
 
 not_true : (b : Bool) → IsTrue (not b) → b ≡ false
 not_true true h = cc

@@ -13,7 +13,7 @@ use Rattle.mi_base.specs.declared.records.Row.{Row}
 use Rattle.mi_base.specs.Sorting.{Ascends, SameElements}
 use Rattle.mi_rules.proofs.RuleLemmas.{bound_passes, not_less}
 use Rattle.mi_tree.specs.declared.outcomes.Leaf.{Leaf}
-use Rattle.mi_tree.specs.Passing.{IsBound, hull_passes, is_reached, kth_distance}
+use Rattle.mi_rules.specs.Passing.{IsBound, hull_passes, is_reached, kth_distance}
 use Rattle.mi_tree.proofs.ListLemmas.{all_joined}
 use Rattle.mi_nearest.specs.declared.order.Rank.{Rank}
 use Rattle.mi_nearest.specs.Nearing.{first_rows}

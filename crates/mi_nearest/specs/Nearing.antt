@@ -5,7 +5,7 @@ use Rattle.mi_base.specs.History.{row_cmp, row_of}
 use Rattle.mi_base.specs.Sorting.{sorted}
 use Rattle.mi_base.specs.Space.{MetricSpace}
 use Rattle.mi_key.specs.Entries.{Offering}
-use Rattle.mi_tree.specs.Passing.{kth_distance, lets_through}
+use Rattle.mi_rules.specs.Passing.{kth_distance, lets_through}
 
 -- the query's distances to the pivots, how many rows it is for, the rows kept in their order, and how many rows more there is room for
 pub record Nearing : Type 0 where

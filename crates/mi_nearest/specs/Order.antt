@@ -5,7 +5,7 @@ use Rattle.std.specs.List.{AllByRecursion, filter, filter_map}
 use Rattle.std.specs.Ordering.{nat_cmp, ordering_then}
 use Rattle.mi_base.specs.Sorting.{Ascends, SameElements}
 use Rattle.mi_tree.specs.declared.outcomes.Leaf.{Leaf}
-use Rattle.mi_tree.specs.Passing.{IsBound}
+use Rattle.mi_rules.specs.Passing.{IsBound}
 use Rattle.mi_nearest.specs.declared.order.Rank.{Rank}
 
 -- by bound, then place

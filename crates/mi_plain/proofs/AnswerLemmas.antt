@@ -15,16 +15,17 @@ use Rattle.mi_base.specs.declared.records.Position.{Position}
 use Rattle.mi_base.specs.Configuration.{Configuration}
 use Rattle.mi_base.specs.History.{Entered, end_of, entered, is_live, updates_of}
 use Rattle.mi_base.proofs.HistoryLemmas.{entered-append, updates_of-append}
-use Rattle.mi_tree.specs.InTurn.{BeganAt}
-use Rattle.mi_tree.specs.Legal.{accepted_update, events_to}
-use Rattle.mi_tree.specs.Right.{IsUpdateNumber, Right, updates_before}
-use Rattle.mi_plain.proofs.GrowingLemmas.{length-updates_of}
-use Rattle.mi_plain.proofs.RangeLemmas.{at_end, end_events, end_is}
-use Rattle.mi_plain.proofs.GrowingLemmas.{grows_none}
-use Rattle.mi_plain.specs.Answering.{Answers, Grows, GrowsBySplits, TellsBetween}
+use Rattle.mi_legal.specs.InTurn.{BeganAt}
+use Rattle.mi_legal.specs.Legal.{accepted_update, events_to}
+use Rattle.mi_legal.specs.Right.{IsUpdateNumber, Right, updates_before}
+use Rattle.mi_tree.proofs.GrowingLemmas.{length-updates_of}
+use Rattle.mi_tree.proofs.GrowingLemmas.{at_end, end_events, end_is}
+use Rattle.mi_tree.proofs.GrowingLemmas.{grows_none}
+use Rattle.mi_plain.specs.Answering.{Answers, TellsBetween}
+use Rattle.mi_tree.specs.Growing.{Grows, GrowsBySplits}
 
 -- nothing was entered
-pub unchanged : (c : Configuration) (log : List LogEvent) (session op : ℕ) (o : Op) (y : Reply) → accepted_update session op o y ≡ [] → Right c log session op o y → BeganAt (length (updates_of log)) y → TellsBetween log log y → Answers c log session op o y log
+pub unchanged : (c : Configuration) (log : List LogEvent) (session op : ℕ) (o : Op) (y : Reply) → accepted_update session op o y ≡ [] → Right c log 1 session op o y → BeganAt (length (updates_of log)) y → TellsBetween log log y → Answers c log session op o y log
 unchanged c log session op o y none right began tells = record {
   grows = grows_none log;
   enters = sym (append-nil (entered log)) ∙ ap (λ es. entered log ++ es) (sym none);

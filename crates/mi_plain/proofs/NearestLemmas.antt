@@ -37,7 +37,7 @@ use Rattle.mi_tree.specs.declared.outcomes.Leaf.{Leaf}
 use Rattle.mi_tree.specs.Cells.{depth, leaf_of, leaves}
 use Rattle.mi_tree.specs.Counting.{belongs, population, in_hull, leaf_with}
 use Rattle.mi_tree.specs.Legal.{LegalLog, cells_of}
-use Rattle.mi_tree.specs.Passing.{IsBound, hull_passes, kth_distance, reached_count, reached_objects}
+use Rattle.mi_rules.specs.Passing.{IsBound, hull_passes, kth_distance, reached_count, reached_objects}
 use Rattle.mi_tree.proofs.CatLemmas.{held_live}
 use Rattle.mi_tree.proofs.FitLemmas.{Fits}
 use Rattle.mi_tree.proofs.LeafLemmas.{begins_take, one_leaf}
@@ -48,7 +48,8 @@ use Rattle.mi_plain.specs.Opening.{offerings, entries_in_span}
 use Rattle.mi_plain.specs.Plain.{IsKept, grid_for, object_in}
 use Rattle.mi_plain.proofs.KeyLemmas.{distance_fits}
 use Rattle.mi_plain.proofs.OpenedLemmas.{cells_fit, leaf_fits}
-use Rattle.mi_plain.proofs.RangeLemmas.{at_end, end_events, end_is, objects_offered}
+use Rattle.mi_plain.proofs.RangeLemmas.{objects_offered}
+use Rattle.mi_tree.proofs.GrowingLemmas.{at_end, end_events, end_is}
 use Rattle.mi_plain.proofs.SpanLemmas.{Covered, all_covered, cluster_is, own_empty, own_fits}
 use Rattle.mi_plain.proofs.SummingLemmas.{one_passes, sum_both, sum_none, sum_same, weigh, weigh_one}
 

@@ -25,7 +25,7 @@ use Rattle.mi_rules.specs.Spans.{is_in_span}
 use Rattle.mi_rules.proofs.RuleLemmas.{refused_far}
 use Rattle.mi_tree.specs.declared.outcomes.Leaf.{Leaf}
 use Rattle.mi_tree.specs.Legal.{LegalLog, cells_of}
-use Rattle.mi_tree.specs.Passing.{lets_through, passes}
+use Rattle.mi_rules.specs.Passing.{lets_through, passes}
 use Rattle.mi_tree.proofs.ListLemmas.{all_any, all_weaker, filter_same}
 use Rattle.mi_plain.specs.Opening.{AreMeasured, offerings, entries_in_span}
 use Rattle.mi_plain.specs.Plain.{IsKept, object_in}

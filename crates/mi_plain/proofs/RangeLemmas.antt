@@ -24,25 +24,16 @@ use Rattle.mi_plain.specs.Plain.{IsKept, object_in}
 use Rattle.mi_range.specs.Ranging.{compared_count}
 use Rattle.mi_rules.proofs.CandidateLemmas.{candidates_are}
 use Rattle.mi_tree.specs.Cells.{AllMaySplit}
+use Rattle.mi_tree.proofs.GrowingLemmas.{at_end, end_events, end_is}
 use Rattle.mi_tree.proofs.LegalLemmas.{grid, all_may}
 use Rattle.mi_plain.specs.Answering.{Answers}
 use Rattle.mi_plain.proofs.EntryLemmas.{length_live}
 use Rattle.mi_tree.specs.Legal.{LegalLog}
-use Rattle.mi_tree.specs.Passing.{lets_through, candidates, opened_count}
+use Rattle.mi_rules.specs.Passing.{lets_through, candidates, opened_count}
 
 -- the rows of what is offered
 abbrev pub offered_hits : Configuration → List ℤ → ℕ → List (ℕ × Entry) → List Row
 offered_hits c query radius es = hits (metric_space c) query radius (map (λ o. o.object) (offerings es))
-
--- the end of a log is a position, and its prefix is the log
-pub end_events : (log : List LogEvent) → length (updates_of log) + splits_of log ≡ length log
-end_events log = omega (arith, few_updates log)
-
-pub at_end : (log : List LogEvent) → at_position log (end_of log) ≡ log
-at_end log = ap (λ n. take n log) (end_events log) ∙ take_all (length log) log (omega arith)
-
-pub end_is : (log : List LogEvent) → IsPosition log (end_of log)
-end_is log = record { within = omega (arith, end_events log); updates = ap (λ (l : List LogEvent). length (updates_of l)) (at_end log) }
 
 -- what is compared of a map's entries is no more than there are
 pub compared_few : (dq : List ℕ) (radius : ℕ) (es : List (ℕ × Entry)) → compared_count dq radius (offerings es) ≤ length es

@@ -11,13 +11,17 @@ use Rattle.mi_base.specs.declared.records.Reply.TheVariants.{Stored, Removed}
 use Rattle.mi_base.specs.Configuration.{Configuration}
 use Rattle.mi_base.specs.History.{Entered, entered, updates_of, live}
 use Rattle.mi_tree.specs.declared.outcomes.Outcome.{Outcome}
-use Rattle.mi_tree.specs.Legal.{EachRight, Legal, LegalLog, NeverFalls, Settled, accepted_update, accepted_in, cells_of, reach}
-use Rattle.mi_tree.specs.InTurn.{AloneInTurn, InTurn, updates_after}
-use Rattle.mi_tree.specs.Right.{Right}
+use Rattle.mi_tree.specs.Legal.{LegalLog, Settled, cells_of}
+use Rattle.mi_legal.specs.Legal.{EachRight, Legal, NeverFalls, accepted_update, accepted_in, reach}
+use Rattle.mi_legal.specs.InTurn.{AloneInTurn, InTurn, updates_after}
+use Rattle.mi_legal.specs.Right.{Right}
 use Rattle.mi_tree.proofs.ListLemmas.{all_joined}
-use Rattle.mi_plain.specs.Answering.{Answers, Grows, GrowsBySplits, Ran, RanAlone}
-use Rattle.mi_plain.specs.Outcomes.{IsFinished, IsOutcomeOf, has_memory, is_memory}
-use Rattle.mi_plain.proofs.GrowingLemmas.{StaysFull, full_stays, grows_length, grows_none, grows_on, length-updates_of, reach_grows, right_grows}
+use Rattle.mi_plain.specs.Answering.{Answers, Ran, RanAlone}
+use Rattle.mi_tree.specs.Growing.{Grows, GrowsBySplits}
+use Rattle.mi_plain.specs.Outcomes.{IsFinished, IsOutcomeOf}
+use Rattle.mi_legal.specs.Want.{has_memory, is_memory}
+use Rattle.mi_legal.proofs.ReplyLemmas.{StaysFull, full_stays, reach_grows, right_grows}
+use Rattle.mi_tree.proofs.GrowingLemmas.{grows_length, grows_none, grows_on, length-updates_of}
 
 stays_by_splits : (c : Configuration) (log new : List LogEvent) (s : GrowsBySplits log new) → StaysFull c log s.grows.by
 stays_by_splits c log new s full = ap updates_of (sym s.grows.is) ∙ ap (map (λ e. e.update)) s.enters
@@ -29,11 +33,11 @@ told_longer low high higher (Some n) le h = (h.0, omega (arith, h.1, le))
 -- an operation and splits after it are one
 pub answers_then_splits : (c : Configuration) (old mid new : List LogEvent) (session op : ℕ) (o : Op) (y : Reply) → Answers c old session op o y mid → GrowsBySplits mid new → Answers c old session op o y new
 answers_then_splits c old mid new session op o y a s =
-    let far : reach new y ≡ reach mid y = ap (λ l. reach l y) s.grows.is ∙ reach_grows c mid s.grows.by session op o y a.right in
+    let far : reach new y ≡ reach mid y = ap (λ l. reach l y) s.grows.is ∙ reach_grows c mid s.grows.by 1 session op o y a.right in
     record {
       grows = grows_on old mid new a.grows s.grows;
       enters = s.enters ∙ a.enters;
-      right = subst (λ l. Right c l session op o y) (sym s.grows.is) (right_grows c mid s.grows.by session op o y (stays_by_splits c mid new s) a.right);
+      right = subst (λ l. Right c l 1 session op o y) (sym s.grows.is) (right_grows c mid s.grows.by 1 session op o y (stays_by_splits c mid new s) a.right);
       began = a.began;
       tells = subst (λ r. MatchOption r (Unit {0}) (λ n. (length old ≤ n) × (n ≤ length new))) (sym far) (told_longer (length old) (length mid) (length new) (reach mid y) (grows_length mid new s.grows) a.tells);
     }
@@ -67,19 +71,19 @@ ran_grows c old new session op (o ∷ os) [] ran = absurd ran
 
 -- each reply is right in a log that went on from there
 ran_right : (c : Configuration) (old new log : List LogEvent) (session op : ℕ) (os : List Op) (ys : List Reply) → length (updates_of log) ≤ c.updates → Ran c old session op os ys new → Grows new log
-    → EachRight c log session op os ys
+    → EachRight c log 1 session op os ys
 ran_right c old new log session op [] [] few ran g = tt
 ran_right c old new log session op (o ∷ os) (y ∷ ys) few ran g =
     let mid = ran.0 in
     let later = grows_on mid new log (ran_grows c mid new session (op + 1) os ys ran.1.1) g in
     let still : length (updates_of (mid ++ later.by)) ≤ c.updates = subst (λ l. length (updates_of l) ≤ c.updates) later.is few in
-    let here : Right c log session op o y = subst (λ l. Right c l session op o y) (sym later.is) (right_grows c mid later.by session op o y (full_stays c mid later.by still) ran.1.0.right) in
+    let here : Right c log 1 session op o y = subst (λ l. Right c l 1 session op o y) (sym later.is) (right_grows c mid later.by 1 session op o y (full_stays c mid later.by still) ran.1.0.right) in
     (here, ran_right c mid new log session (op + 1) os ys few ran.1.1 g)
 ran_right c old new log session op [] (y ∷ ys) few ran g = absurd ran
 ran_right c old new log session op (o ∷ os) [] few ran g = absurd ran
 
 -- the updates after a reply
-after_one : (c : Configuration) (log : List LogEvent) (session op n : ℕ) (o : Op) (y : Reply) → Right c log session op o y → n + length (accepted_update session op o y) ≡ updates_after n y
+after_one : (c : Configuration) (log : List LogEvent) (session op n : ℕ) (o : Op) (y : Reply) → Right c log 1 session op o y → n + length (accepted_update session op o y) ≡ updates_after n y
 after_one c log session op n (Insert id v) (Stored k) h = omega arith
 after_one c log session op n (Delete id) (Removed k) h = omega arith
 after_one c log session op n o (Stored k) h = absurd h
@@ -114,7 +118,7 @@ never_falls c old new log session op from (o ∷ os) (y ∷ ys) ran g le =
     let mid = ran.0 in
     let a = ran.1.0 in
     let later = grows_on mid new log (ran_grows c mid new session (op + 1) os ys ran.1.1) g in
-    let far : reach log y ≡ reach mid y = ap (λ l. reach l y) later.is ∙ reach_grows c mid later.by session op o y a.right in
+    let far : reach log y ≡ reach mid y = ap (λ l. reach l y) later.is ∙ reach_grows c mid later.by 1 session op o y a.right in
     let told = subst (λ r. MatchOption r (Unit {0}) (λ n. (length old ≤ n) × (n ≤ length mid))) (sym far) a.tells in
     falls_not log (length old) (length mid) from ys (reach log y) le (grows_length old mid a.grows) told (λ n within. never_falls c mid new log session (op + 1) n os ys ran.1.1 g within)
 never_falls c old new log session op from [] (y ∷ ys) ran g le = absurd ran
@@ -141,7 +145,7 @@ named_own [] h = tt
 named_own (e ∷ es) h = (omega (arith, h.0), named_own es h.1)
 
 -- one script alone, and splits after its last operation
-pub ran_legal : (c : Configuration) (os : List Op) (ys : List Reply) (mid log : List LogEvent) → LegalLog c log → Ran c [] 0 1 os ys mid → GrowsBySplits mid log → Legal c (os ∷ []) (ys ∷ []) log
+pub ran_legal : (c : Configuration) (os : List Op) (ys : List Reply) (mid log : List LogEvent) → LegalLog c log → Ran c [] 0 1 os ys mid → GrowsBySplits mid log → Legal c (os ∷ []) (ys ∷ []) log 1
 ran_legal c os ys mid log legal ran s =
     let all : entered log ≡ accepted_in 0 1 os ys = s.enters ∙ ran_entered c [] mid 0 1 os ys ran in
     let own : AllByRecursion (λ e. e.session ≡ 0) (entered log) = subst (λ es. AllByRecursion (λ e. e.session ≡ 0) es) (sym all) (all_accepted_by 0 1 os ys) in
@@ -158,7 +162,7 @@ pub finished_outcome : (c : Configuration) (os : List Op) (ys : List Reply) (mid
     → GrowsBySplits mid log → (given_up ≡ true → 1 ≤ length c.pivots) → (given_up ≡ false → Settled c log) → IsOutcomeOf c os o
 finished_outcome c os ys mid log given_up o f legal ran s pivots settled =
     record {
-      legal = subst (λ rs. Legal c (os ∷ []) rs o.log) (sym f.replies_are) (subst (λ l. Legal c (os ∷ []) (ys ∷ []) l) (sym f.log_is) (ran_legal c os ys mid log legal ran s));
+      legal = subst (Legal c (os ∷ []) o.replies o.log) (sym f.one_page) (subst (λ rs. Legal c (os ∷ []) rs o.log 1) (sym f.replies_are) (subst (λ l. Legal c (os ∷ []) (ys ∷ []) l 1) (sym f.log_is) (ran_legal c os ys mid log legal ran s)));
       turns = subst AloneInTurn (sym f.replies_are) (ran_in_turn c [] mid 0 1 os ys ran);
       ran = subst (λ rs. RanAlone c os rs o.log) (sym f.replies_are) (subst (λ l. RanAlone c os (ys ∷ []) l) (sym f.log_is) (mid, (ran, s)));
       cells_are = f.cells_are ∙ ap (cells_of c) (sym f.log_is);

@@ -26,7 +26,7 @@ use Rattle.mi_tree.specs.declared.outcomes.Leaf.{Leaf}
 use Rattle.mi_tree.specs.Cells.{depth, depth_after, leaf_of, leaves}
 use Rattle.mi_tree.specs.Counting.{belongs, population, in_hull, leaf_with}
 use Rattle.mi_tree.specs.Legal.{LegalLog, cells_of}
-use Rattle.mi_tree.specs.Passing.{lets_through, passes}
+use Rattle.mi_rules.specs.Passing.{lets_through, passes}
 use Rattle.mi_tree.proofs.CoverLemmas.{live_covered}
 use Rattle.mi_tree.proofs.FitLemmas.{Fits, leaves_fit}
 use Rattle.mi_tree.proofs.LeafLemmas.{begins_take, one_leaf}

@@ -22,7 +22,7 @@ use Rattle.mi_key.specs.Clusters.{cluster_of}
 use Rattle.mi_key.specs.Keys.{FitKey, key_of, parts_of}
 use Rattle.mi_key.proofs.ClusterLemmas.{cluster-small}
 use Rattle.mi_key.proofs.KeyLemmas.{made_of, parts_of-key_of}
-use Rattle.mi_plain.specs.Answering.{GrowsBySplits}
+use Rattle.mi_tree.specs.Growing.{GrowsBySplits}
 use Rattle.mi_plain.specs.Plain.{IsKept, IsPlain, child_key, grid_for, leaf_key, moves, object_in, child_entry}
 use Rattle.mi_plain.proofs.KeyLemmas.{all_below-permutation, distance_fits, id_fits}
 use Rattle.mi_tree.specs.Cells.{IsGrid, depth, leaf_of}

@@ -4,21 +4,14 @@ use Rattle.std.specs.List.{list_any}
 use Rattle.mi_base.specs.declared.records.LogEvent.{LogEvent}
 use Rattle.mi_base.specs.declared.records.Op.{Op}
 use Rattle.mi_base.specs.declared.records.Reply.{Reply}
-use Rattle.mi_base.specs.declared.records.Reply.TheVariants.{Memory}
 use Rattle.mi_base.specs.Configuration.{Configuration}
 use Rattle.mi_base.specs.History.{live, updates_of}
 use Rattle.mi_tree.specs.declared.outcomes.Outcome.{Outcome}
-use Rattle.mi_tree.specs.Legal.{Legal, Settled, cells_of}
-use Rattle.mi_tree.specs.InTurn.{AloneInTurn}
+use Rattle.mi_tree.specs.Legal.{Settled, cells_of}
+use Rattle.mi_legal.specs.InTurn.{AloneInTurn}
+use Rattle.mi_legal.specs.Legal.{Legal}
+use Rattle.mi_legal.specs.Want.{has_memory, is_memory}
 use Rattle.mi_plain.specs.Answering.{RanAlone}
-
-abbrev pub is_memory : Reply → Bool
-is_memory Memory = true
-is_memory y = false
-
--- an answer is missing for want of memory
-abbrev pub has_memory : List (List Reply) → Bool
-has_memory replies = list_any (λ ys. list_any is_memory ys) replies
 
 -- Memory was wanted by an operation, or by a split that the splitter gave up, which it makes under pivots alone. Where no split was
 -- given up, no leaf is left to be split.
@@ -29,7 +22,7 @@ pub record IsShort (c : Configuration) (o : Outcome) : Type 0 where
   pub settled : given_up ≡ false → Settled c o.log
 
 pub record IsOutcomeOf (c : Configuration) (script : List Op) (o : Outcome) : Type 0 where
-  pub legal : Legal c (script ∷ []) o.replies o.log
+  pub legal : Legal c (script ∷ []) o.replies o.log o.allotted
   pub turns : AloneInTurn o.replies
   pub ran : RanAlone c script o.replies o.log
   pub cells_are : o.cells ≡ cells_of c o.log

@@ -3,8 +3,10 @@ ghost use Rattle.std.specs.Prelude.{◌≡◌, ◌<◌, ◌≤◌, ◌||◌, [],
 ghost use Rattle.std.specs.List.{list_any};
 ghost use Rattle.mi_base.specs.Configuration.{metric_space};
 ghost use Rattle.mi_base.specs.Scripts.{IsOpOver, IsScriptOver};
-ghost use Rattle.mi_plain.specs.Answering.{Answers, GrowsBySplits};
-ghost use Rattle.mi_plain.specs.Outcomes.{IsFinished, IsOutcomeOf, is_memory};
+ghost use Rattle.mi_plain.specs.Answering.{Answers};
+ghost use Rattle.mi_tree.specs.Growing.{GrowsBySplits};
+ghost use Rattle.mi_plain.specs.Outcomes.{IsFinished, IsOutcomeOf};
+ghost use Rattle.mi_legal.specs.Want.{is_memory};
 ghost use Rattle.mi_tree.specs.Legal.{LegalLog, Settled};
 ghost use Rattle.mi_plain.specs.Plain.{NoClaims};
 

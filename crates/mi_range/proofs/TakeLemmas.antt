@@ -9,7 +9,7 @@ use Rattle.mi_base.specs.declared.records.Row.{Row}
 use Rattle.mi_base.specs.History.{Object, hits, row_of}
 use Rattle.mi_base.specs.Space.{IsMetric, MetricSpace}
 use Rattle.mi_key.specs.Entries.{Offering}
-use Rattle.mi_tree.specs.Passing.{lets_through}
+use Rattle.mi_rules.specs.Passing.{lets_through}
 use Rattle.mi_rules.specs.Answers.{Measured}
 use Rattle.mi_rules.proofs.RuleLemmas.{refused_far}
 use Rattle.mi_range.specs.Ranging.{Ranging, TakesRange, compared_count}

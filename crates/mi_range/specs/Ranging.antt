@@ -4,7 +4,7 @@ use Rattle.mi_base.specs.declared.records.Row.{Row}
 use Rattle.mi_base.specs.History.{hits}
 use Rattle.mi_base.specs.Space.{MetricSpace}
 use Rattle.mi_key.specs.Entries.{Offering}
-use Rattle.mi_tree.specs.Passing.{lets_through}
+use Rattle.mi_rules.specs.Passing.{lets_through}
 
 -- the query's distances to the pivots, its radius, the rows so far in the order of what was offered, how many distances were
 -- computed, and how many rows more there is room for

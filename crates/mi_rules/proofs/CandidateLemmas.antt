@@ -10,7 +10,7 @@ use Rattle.mi_base.specs.Permutations.{begins, distances, permutation_of, key_di
 use Rattle.mi_base.specs.Space.{Space}
 use Rattle.mi_tree.specs.Cells.{IsGrid, AllMaySplit, depth, grid_of, leaves, leaf_of}
 use Rattle.mi_tree.specs.Counting.{belongs, population, in_hull, leaf_with}
-use Rattle.mi_tree.specs.Passing.{candidates, is_opened, lets_through, passes}
+use Rattle.mi_rules.specs.Passing.{candidates, is_opened, lets_through, passes}
 use Rattle.mi_tree.proofs.CountLemmas.{any_map}
 use Rattle.mi_tree.proofs.CoverLemmas.{live_covered}
 use Rattle.mi_tree.proofs.LeafLemmas.{begins_take, one_leaf}

@@ -20,7 +20,7 @@ use Rattle.mi_base.proofs.HistoryLemmas.{same_any}
 use Rattle.mi_base.proofs.PivotLemmas.{permutation_of-ascends, same_permutation_of}
 use Rattle.mi_tree.specs.declared.outcomes.Leaf.{Leaf}
 use Rattle.mi_tree.specs.Counting.{in_hull}
-use Rattle.mi_tree.specs.Passing.{IsBound, double_pivot, hull_passes, lets_through, none_nearer, passes, range_pivot, rules_pass}
+use Rattle.mi_rules.specs.Passing.{IsBound, double_pivot, hull_passes, lets_through, none_nearer, passes, range_pivot, rules_pass}
 use Rattle.mi_key.specs.Clusters.{cluster_of}
 use Rattle.mi_key.specs.declared.keys.KeyParts.{KeyParts}
 use Rattle.mi_rules.specs.Answers.{IsAnswer, MayHold, Measured}

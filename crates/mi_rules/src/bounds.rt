@@ -2,7 +2,7 @@
 ghost use Rattle.std.specs.Prelude.{◌≡◌, ℕ, IsTrue, IfSome, nat_le};
 ghost use Rattle.arrayvec.specs.ArrayVec.{array_vec_len};
 ghost use Rattle.mi_base.specs.Prefixes.{all_below};
-ghost use Rattle.mi_tree.specs.Passing.{IsBound, double_pivot, none_nearer, passes};
+ghost use Rattle.mi_rules.specs.Passing.{IsBound, double_pivot, none_nearer, passes};
 
 use mi_base::Dists;
 use mi_tree::Leaf;

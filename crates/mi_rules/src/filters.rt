@@ -1,7 +1,7 @@
 //! The filter by the distances to all pivots.
 ghost use Rattle.std.specs.Prelude.{◌≡◌};
 ghost use Rattle.arrayvec.specs.ArrayVec.{array_vec_len};
-ghost use Rattle.mi_tree.specs.Passing.{lets_through};
+ghost use Rattle.mi_rules.specs.Passing.{lets_through};
 
 use mi_base::Dists;
 

@@ -10,7 +10,7 @@ ghost use Rattle.mi_key.specs.Clusters.{cluster_of};
 ghost use Rattle.mi_key.specs.declared.keys.KeyParts.{KeyParts};
 ghost use Rattle.mi_tree.specs.declared.outcomes.Leaf.{Leaf};
 ghost use Rattle.mi_tree.specs.Cells.{AllMaySplit, grid_of};
-ghost use Rattle.mi_tree.specs.Passing.{IsBound, candidates, lets_through, passes};
+ghost use Rattle.mi_rules.specs.Passing.{IsBound, candidates, lets_through, passes};
 ghost use Rattle.mi_rules.specs.Answers.{IsAnswer, MayHold};
 ghost use Rattle.mi_rules.specs.Spans.{is_in_span, is_near};
 

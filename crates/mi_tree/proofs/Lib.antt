@@ -11,3 +11,4 @@ pub mod SearchLemmas
 pub mod LegalLemmas
 pub mod SplitsLemmas
 pub mod FitLemmas
+pub mod GrowingLemmas

@@ -1,28 +1,23 @@
--- When a log is legal, and when replies and a log are a legal outcome of scripts.
-use Rattle.std.specs.Prelude.{◌&&◌, ◌≡◌, ℕ, zero, suc, ◌+◌, ◌<◌, ◌≤◌, ◌==◌, true, false, IsTrue, List, [], ◌∷◌, ◌++◌, length, Option, Some, None, MatchOption}
-use Rattle.std.specs.List.{filter, list_any, AllByRecursion}
+-- When a log is legal.
+use Rattle.std.specs.Prelude.{◌&&◌, ◌≡◌, ◌<◌, ◌≤◌, ◌^◌, true, false, IsTrue, List, [], ◌∷◌, ◌++◌, length}
+use Rattle.std.specs.List.{list_any}
 use Rattle.mi_base.specs.declared.records.Update.TheVariants as update
 use Rattle.mi_base.specs.declared.records.LogEvent.{LogEvent}
 use Rattle.mi_base.specs.declared.records.LogEvent.TheVariants as event
-use Rattle.mi_base.specs.declared.records.Op.{Op}
-use Rattle.mi_base.specs.declared.records.Op.TheVariants.{Insert, Delete}
-use Rattle.mi_base.specs.declared.records.Reply.{Reply}
-use Rattle.mi_base.specs.declared.records.Reply.TheVariants.{Stored, Removed, Present, Absent, Range, Nearest}
 use Rattle.mi_base.specs.Configuration.{Configuration, metric_space, space_of}
-use Rattle.mi_base.specs.History.{Entered, entered, updates_of, events_at, is_live}
+use Rattle.mi_base.specs.History.{updates_of, is_live}
 use Rattle.mi_tree.specs.declared.outcomes.Leaf.{Leaf}
 use Rattle.mi_tree.specs.Cells.{grid_of, same_cell}
 use Rattle.mi_tree.specs.Counting.{catalog_after, is_wanted, is_overfull}
-use Rattle.mi_tree.specs.Right.{Right}
 
 -- the leaves after a log, under these settings
 abbrev pub cells_of : Configuration → List LogEvent → List Leaf
 cells_of c log = catalog_after (grid_of (space_of c) c.levels) log
 
--- an event that may follow a log: an insert of a vector that fits, whose identifier isn't live, a delete of a live one,
+-- an event that may follow a log: an insert of a vector that fits, whose identifier has at most 40 bits and isn't live, a delete of a live one,
 -- or a split of a leaf that is to be split
 abbrev pub MayFollow : Configuration → List LogEvent → LogEvent → Type 0
-MayFollow c log (event.Update session op (update.Insert id vector)) = IsTrue ((metric_space c).fits vector) × (is_live id (updates_of log) ≡ false)
+MayFollow c log (event.Update session op (update.Insert id vector)) = IsTrue ((metric_space c).fits vector) × (is_live id (updates_of log) ≡ false) × (id < 2 ^ 40)
 MayFollow c log (event.Update session op (update.Delete id)) = is_live id (updates_of log) ≡ true
 MayFollow c log (event.Split prefix) = IsTrue (list_any (λ leaf. same_cell prefix leaf.prefix && is_wanted c.levels c.cell leaf) (cells_of c log))
 
@@ -42,69 +37,3 @@ pub record LegalLog (c : Configuration) (log : List LogEvent) : Type 0 where
 -- no leaf is to be split
 abbrev pub Settled : Configuration → List LogEvent → Type 0
 Settled c log = list_any (is_wanted c.levels c.cell) (cells_of c log) ≡ false
-
--- each operation has one reply, and it is right; op is the number of the first
-abbrev pub EachRight : Configuration → List LogEvent → ℕ → ℕ → List Op → List Reply → Type 0
-EachRight c log session op [] [] = Unit {0}
-EachRight c log session op (o ∷ os) (y ∷ ys) = Right c log session op o y × EachRight c log session (op + 1) os ys
-EachRight c log session op [] (y ∷ ys) = ⊥
-EachRight c log session op (o ∷ os) [] = ⊥
-
--- the same for each script, from this session on
-abbrev pub AllRight : Configuration → List LogEvent → ℕ → List (List Op) → List (List Reply) → Type 0
-AllRight c log session [] [] = Unit {0}
-AllRight c log session (os ∷ scripts) (ys ∷ replies) = EachRight c log session 1 os ys × AllRight c log (session + 1) scripts replies
-AllRight c log session [] (ys ∷ replies) = ⊥
-AllRight c log session (os ∷ scripts) [] = ⊥
-
--- the update that an operation enters into the log where it is accepted
-abbrev pub accepted_update : ℕ → ℕ → Op → Reply → List Entered
-accepted_update session op (Insert id vector) (Stored n) = record { session = session; op = op; update = update.Insert id vector } ∷ []
-accepted_update session op (Delete id) (Removed n) = record { session = session; op = op; update = update.Delete id } ∷ []
-accepted_update session op o y = []
-
--- the accepted updates of a script in order, each once
-abbrev pub accepted_in : ℕ → ℕ → List Op → List Reply → List Entered
-accepted_in session op (o ∷ os) (y ∷ ys) = accepted_update session op o y ++ accepted_in session (op + 1) os ys
-accepted_in session op os ys = []
-
--- the updates of the log that name a session, in order, are the accepted updates of its script
-abbrev pub AllEntered : List LogEvent → ℕ → List (List Op) → List (List Reply) → Type 0
-AllEntered log session [] replies = Unit {0}
-AllEntered log session (os ∷ scripts) [] = ⊥
-AllEntered log session (os ∷ scripts) (ys ∷ replies) =
-    (filter (λ e. e.session == session) (entered log) ≡ accepted_in session 1 os ys) × AllEntered log (session + 1) scripts replies
-
--- how many events the log has up to update number n
-abbrev pub events_to : ℕ → List LogEvent → ℕ
-events_to zero log = 0
-events_to (suc n) [] = 0
-events_to (suc n) (event.Update session op u ∷ log) = 1 + events_to n log
-events_to (suc n) (event.Split prefix ∷ log) = 1 + events_to (suc n) log
-
--- how many events the prefix of a reply's position has, where the reply has a position
-abbrev pub reach : List LogEvent → Reply → Option ℕ
-reach log (Stored n) = Some (events_to n log)
-reach log (Removed n) = Some (events_to n log)
-reach log (Present p) = Some (events_at p)
-reach log (Absent p) = Some (events_at p)
-reach log (Range p rows cells distances) = Some (events_at p)
-reach log (Nearest p rows cells) = Some (events_at p)
-reach log y = None
-
--- no position falls behind an earlier one, nor behind so many events
-abbrev pub NeverFalls : List LogEvent → ℕ → List Reply → Type 0
-NeverFalls log from [] = Unit {0}
-NeverFalls log from (y ∷ ys) = MatchOption (reach log y) (NeverFalls log from ys) (λ n. (from ≤ n) × NeverFalls log n ys)
-
--- Replies and a log that scripts may have.
-pub record Legal (c : Configuration) (scripts : List (List Op)) (replies : List (List Reply)) (log : List LogEvent) : Type 0 where
-  -- the log is legal
-  pub log_is : LegalLog c log
-  -- each operation of each script has one reply, and it is right
-  pub right : AllRight c log 0 scripts replies
-  -- the log's updates are a merge of the scripts' accepted ones
-  pub entered_are : AllEntered log 0 scripts replies
-  pub named : AllByRecursion (λ e. e.session < length scripts) (entered log)
-  -- what a session has seen it sees from then on
-  pub forward : AllByRecursion (NeverFalls log 0) replies

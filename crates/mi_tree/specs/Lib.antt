@@ -1,9 +1,7 @@
 pub mod Catalog
 pub mod Cells
 pub mod Counting
-pub mod InTurn
+pub mod Growing
 pub mod Legal
 pub mod LoneCell
 pub mod Order
-pub mod Passing
-pub mod Right

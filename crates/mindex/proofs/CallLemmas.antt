@@ -43,7 +43,9 @@ runs_to l o said is status = record {
     log = o.log;
     entries = o.entries;
     given_up = is.short.given_up;
+    allotted = o.allotted;
     legal = is.legal;
+    one_page = is.one_page;
     turns = is.turns;
     ran = is.ran;
     entries_are = is.entries_are;
@@ -51,8 +53,7 @@ runs_to l o said is status = record {
     only_under_pivots = is.short.pivots;
     short_is = is.short.short_is;
     text_is = ap (λ cells. transcript o.replies o.log cells o.entries o.allotted o.limit) is.cells_are
-        ∙ ap (λ n. transcript o.replies o.log (cells_of l.settings o.log) o.entries n o.limit) is.one_page
-        ∙ ap (λ n. transcript o.replies o.log (cells_of l.settings o.log) o.entries 1 n) is.limit_is;
+        ∙ ap (λ n. transcript o.replies o.log (cells_of l.settings o.log) o.entries o.allotted n) is.limit_is;
   };
   status_is = status;
 }

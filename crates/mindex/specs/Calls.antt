@@ -7,8 +7,9 @@ use Rattle.mi_base.specs.History.{live, updates_of}
 use Rattle.mi_input.specs.declared.faults.Reason.{Reason}
 use Rattle.mi_input.specs.declared.faults.Reason.TheVariants as reason
 use Rattle.mi_outside.specs.Outside.{Rose, Wrote, WroteFront}
-use Rattle.mi_tree.specs.InTurn.{AloneInTurn}
-use Rattle.mi_tree.specs.Legal.{Legal, Settled}
+use Rattle.mi_legal.specs.InTurn.{AloneInTurn}
+use Rattle.mi_tree.specs.Legal.{Settled}
+use Rattle.mi_legal.specs.Legal.{Legal}
 use Rattle.mi_print.specs.Render.{line, number_line, rendering}
 use Rattle.mi_table.specs.declared.faults.TableFault.{TableFault}
 use Rattle.mi_table.specs.declared.faults.TableFault.TheVariants as table
@@ -16,7 +17,7 @@ use Rattle.mindex.specs.declared.refusals.Refusal.{Refusal}
 use Rattle.mindex.specs.declared.refusals.Refusal.TheVariants.{Record, Table}
 use Rattle.mindex.specs.Inputs.{Names, Texts, Inputs, AreTextsOf, inputs_of, GoodBefore}
 use Rattle.mi_plain.specs.Answering.{RanAlone}
-use Rattle.mi_plain.specs.Outcomes.{has_memory}
+use Rattle.mi_legal.specs.Want.{has_memory}
 
 abbrev pub usage_line : List ℕ
 usage_line = line (codes "usage: mindex replay SETTINGS SCHEDULE SCRIPT... | run SETTINGS SCRIPT... | make SEED") []
@@ -66,15 +67,17 @@ pub record IsTranscript (inputs : Inputs) (short : Bool) (text : List ℕ) : Typ
   pub replies : List (List Reply)
   pub log : List LogEvent
   pub entries : ℕ
+  pub allotted : ℕ
   pub given_up : Bool
-  pub legal : Legal inputs.settings (inputs.script ∷ []) replies log
+  pub legal : Legal inputs.settings (inputs.script ∷ []) replies log allotted
   pub turns : AloneInTurn replies
   pub ran : RanAlone inputs.settings inputs.script replies log
   pub entries_are : entries ≡ length (live (updates_of log))
   pub settled : given_up ≡ false → Settled inputs.settings log
+  pub one_page : allotted ≡ 1
   pub only_under_pivots : given_up ≡ true → 1 ≤ length inputs.settings.pivots
   pub short_is : short ≡ (has_memory replies || given_up)
-  pub text_is : text ≡ rendering inputs.settings replies log entries 1
+  pub text_is : text ≡ rendering inputs.settings replies log entries allotted
 
 -- a file isn't of its form: the first in the order of the words
 pub record IsRefusal (texts : Texts) (status : ℕ) (text : List ℕ) : Type 0 where

@@ -1,6 +1,6 @@
 use Rattle.std.proofs.Common.{◌≡◌, ℕ, ◌-◌, ap, sym, ◌∙◌, nat_le}
 use Rattle.std.specs.Prelude.{max, slice_get, slice_index}
-use Rattle.mi_tree.specs.Passing.{double_pivot, passes}
+use Rattle.mi_rules.specs.Passing.{double_pivot, passes}
 use Rattle.mi_rules.proofs.RuleLemmas.{leaf_bound, least_bound}
 use Rattle.mi_rules.proofs.bounds.bound.Goals as goal
 

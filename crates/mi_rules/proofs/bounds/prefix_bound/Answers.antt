@@ -1,6 +1,6 @@
 use Rattle.std.proofs.Common.{◌≡◌, ◌≤◌, length, take, ap, sym, ◌∙◌, arith}
 use Rattle.std.specs.Prelude.{slice_index}
-use Rattle.mi_tree.specs.Passing.{none_nearer}
+use Rattle.mi_rules.specs.Passing.{none_nearer}
 use Rattle.mi_rules.proofs.BoundLemmas.{place_more, max_is, all_taken}
 use Rattle.mi_rules.proofs.bounds.prefix_bound.Goals as goal
 

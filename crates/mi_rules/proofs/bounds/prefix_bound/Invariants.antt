@@ -1,7 +1,7 @@
 use Rattle.std.proofs.Common.{◌≡◌, ℕ, nat_le, length, take}
 use Rattle.std.specs.Prelude.{slice_index}
 use Rattle.std.specs.List.{list_all, range_with_len}
-use Rattle.mi_tree.specs.Passing.{none_nearer}
+use Rattle.mi_rules.specs.Passing.{none_nearer}
 use Rattle.mi_rules.proofs.bounds.prefix_bound.Given as goal
 
 -- the bound for the places so far

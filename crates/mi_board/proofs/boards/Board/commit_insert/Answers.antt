@@ -59,7 +59,7 @@ invariant_of-self c =
     let pushed : c.push.new.self.items ≡ b.events.items ++ Made c.args.actor c.args.op (Insert c.args.id c.copy.result) ∷ [] = c.push.ensures.items ∙ (rw c.unwrap.ensures refl) in
     let log_is = pushed ∙ ap (λ v. b.events.items ++ Made c.args.actor c.args.op (Insert c.args.id v) ∷ []) c.copy.ensures in
     insert_board b.settings b.events.items b.catalog b.updates b.actors.items _ ib c.args.actor _ _ _ _ c.push.ensures.capacity b.retired.items
-    c.args.op c.args.id c.args.vector.now perm c.args.distance may object (omega (arith, c.if-self-limit.false, c.limit_of-limit.ensures)) free
+    c.args.op c.args.id c.args.vector.now perm c.args.distance may object (omega (arith, c.get.ensures.same, c.get.ensures.small)) (omega (arith, c.if-self-limit.false, c.limit_of-limit.ensures)) free
     log_is c.add.ensures (change_is (with_reserved false) b.actors.items c.args.actor c.index_mut.result.now _ may.known c.index_mut.ensures.value refl)
 
 pub returns : goal.returns

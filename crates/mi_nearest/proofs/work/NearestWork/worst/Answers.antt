@@ -3,7 +3,7 @@ use Rattle.std.proofs.lemmas.Bool.{false≢true}
 use Rattle.std.proofs.lemmas.Bool.Decides.{nat_tests}
 use Rattle.mi_base.specs.History.{row_cmp}
 use Rattle.mi_base.specs.Sorting.{sorted}
-use Rattle.mi_tree.specs.Passing.{last_distance}
+use Rattle.mi_rules.specs.Passing.{last_distance}
 use Rattle.mi_nearest.specs.Nearing.{worst_of}
 use Rattle.mi_nearest.proofs.HeapLemmas.{last_top, length_sorted}
 use Rattle.mi_nearest.proofs.work.NearestWork.worst.Goals as goal

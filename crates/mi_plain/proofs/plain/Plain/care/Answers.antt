@@ -2,7 +2,7 @@ use Rattle.std.proofs.Common.{◌≡◌, ◌<◌, ◌∷◌, [], ◌∙◌, leng
 use Rattle.mi_base.specs.declared.records.LogEvent.TheVariants.{Split}
 use Rattle.mi_board.specs.Actors.{with_claim}
 use Rattle.mi_board.specs.Boards.{BoardState, with_actor, with_split}
-use Rattle.mi_plain.specs.Answering.{GrowsBySplits}
+use Rattle.mi_tree.specs.Growing.{GrowsBySplits}
 use Rattle.mi_plain.specs.Plain.{IsPlain, NoClaims, work_left}
 use Rattle.mi_plain.proofs.CareLemmas.{found_wanted, settled, less_work}
 use Rattle.mi_plain.proofs.SplittingLemmas.{one_split, plain_actor, plain_beside}

@@ -4,10 +4,10 @@ use Rattle.mi_base.specs.Configuration.{Configuration}
 use Rattle.mi_board.specs.Actors.{actor_at, with_claim}
 use Rattle.mi_board.specs.Boards.{BoardState, crowded_at, with_actor, with_split}
 use Rattle.mi_board.proofs.CrowdLemmas.{crowded_one}
-use Rattle.mi_plain.specs.Answering.{GrowsBySplits}
+use Rattle.mi_tree.specs.Growing.{GrowsBySplits}
 use Rattle.mi_plain.specs.Plain.{IsPlain, NoClaims, work_left}
 use Rattle.mi_plain.proofs.CareLemmas.{crowded_may, less_work, none_after, reserved_after}
-use Rattle.mi_plain.proofs.GrowingLemmas.{splits_on}
+use Rattle.mi_tree.proofs.GrowingLemmas.{splits_on}
 use Rattle.mi_plain.proofs.SplittingLemmas.{one_split, plain_actor}
 use Rattle.mi_tree.specs.Counting.{is_crowded}
 use Rattle.mi_tree.specs.Legal.{LegalLog, MayFollow, cells_of}

@@ -1,6 +1,6 @@
 use Rattle.std.proofs.Common.{◌≡◌}
 use Rattle.mi_board.specs.Actors.{actor_at}
-use Rattle.mi_plain.specs.Answering.{GrowsBySplits}
+use Rattle.mi_tree.specs.Growing.{GrowsBySplits}
 use Rattle.mi_plain.specs.Plain.{NoClaims, work_left}
 use Rattle.mi_plain.proofs.plain.Plain.claim_uncrowded.Given as goal
 

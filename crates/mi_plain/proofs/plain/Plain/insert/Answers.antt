@@ -10,7 +10,7 @@ use Rattle.mi_board.specs.Actors.{with_reserved}
 use Rattle.mi_board.specs.Boards.{BoardState}
 use Rattle.mi_tree.specs.Counting.{leaves_beginning}
 use Rattle.mi_tree.specs.Legal.{cells_of}
-use Rattle.mi_plain.specs.Answering.{GrowsBySplits}
+use Rattle.mi_tree.specs.Growing.{GrowsBySplits}
 use Rattle.mi_plain.proofs.AnswerLemmas.{present_answered, insert_answered}
 use Rattle.mi_plain.proofs.UpdateLemmas.{plain_changed, may_store, reserved_now}
 use Rattle.mi_plain.proofs.plain.Plain.insert.Goals as goal

@@ -23,8 +23,9 @@ use Rattle.mi_rules.specs.Spans.{is_near}
 use Rattle.mi_tree.specs.declared.outcomes.Leaf.{Leaf}
 use Rattle.mi_tree.specs.Catalog.{CatalogState}
 use Rattle.mi_tree.specs.Legal.{cells_of}
-use Rattle.mi_tree.specs.Passing.{kth_distance, reached_objects}
-use Rattle.mi_plain.specs.Answering.{Answers, WorksNearest}
+use Rattle.mi_rules.specs.Passing.{kth_distance, reached_objects}
+use Rattle.mi_plain.specs.Answering.{Answers}
+use Rattle.mi_legal.specs.Work.{WorksNearest}
 use Rattle.mi_plain.specs.Opening.{AreMeasured, offerings, entries_in_span}
 use Rattle.mi_plain.specs.Plain.{IsKept, object_in}
 use Rattle.mi_plain.proofs.NearestLemmas.{cells_below, goes_on, nearest_answered, ranked_here, stops_here, walk_step}

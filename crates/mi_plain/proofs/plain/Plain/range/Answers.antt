@@ -15,8 +15,9 @@ use Rattle.mi_key.specs.declared.entries.Entry.{Entry}
 use Rattle.mi_tree.specs.declared.outcomes.Leaf.{Leaf}
 use Rattle.mi_tree.specs.Catalog.{CatalogState}
 use Rattle.mi_tree.specs.Legal.{cells_of}
-use Rattle.mi_tree.specs.Passing.{opened_count, passes}
-use Rattle.mi_plain.specs.Answering.{Answers, Works}
+use Rattle.mi_rules.specs.Passing.{opened_count, passes}
+use Rattle.mi_plain.specs.Answering.{Answers}
+use Rattle.mi_legal.specs.Work.{Works}
 use Rattle.mi_plain.specs.Opening.{AreMeasured}
 use Rattle.mi_plain.specs.Plain.{IsKept, object_in}
 use Rattle.mi_plain.proofs.OpenedLemmas.{counted_more, few_cells, leaf_fits}

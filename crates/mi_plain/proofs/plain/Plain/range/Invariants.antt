@@ -1,7 +1,7 @@
 use Rattle.std.proofs.Common.{◌≡◌, ◌≤◌, take}
 use Rattle.std.specs.Prelude.{count_by}
 use Rattle.mi_tree.specs.Legal.{cells_of}
-use Rattle.mi_tree.specs.Passing.{passes}
+use Rattle.mi_rules.specs.Passing.{passes}
 use Rattle.mi_range.specs.Ranging.{TakesRange}
 use Rattle.mi_plain.specs.Opening.{offerings}
 use Rattle.mi_plain.proofs.OpeningLemmas.{opened_entries}

@@ -1,5 +1,5 @@
 use Rattle.std.proofs.Common.{◌≡◌}
-use Rattle.mi_plain.specs.Answering.{GrowsBySplits}
+use Rattle.mi_tree.specs.Growing.{GrowsBySplits}
 use Rattle.mi_plain.specs.Plain.{NoClaims, work_left}
 use Rattle.mi_plain.proofs.plain.Plain.settle.Given as goal
 

@@ -1,6 +1,6 @@
 use Rattle.std.proofs.Common.{sym, ap, ◌∙◌}
 use Rattle.mi_key.specs.Entries.{offering_of}
-use Rattle.mi_tree.specs.Passing.{lets_through}
+use Rattle.mi_rules.specs.Passing.{lets_through}
 use Rattle.mi_range.proofs.TakeLemmas.{take_refused}
 use Rattle.mi_range.proofs.work.RangeWork.take.Goals as goal
 

@@ -11,7 +11,7 @@ use Rattle.mi_base.specs.declared.records.Position.{Position}
 use Rattle.mi_base.specs.declared.records.Row.{Row}
 use Rattle.mi_base.specs.Configuration.{Configuration, metric_space, space_of}
 use Rattle.mi_base.specs.History.{Entered, entered, updates_of, at_position, IsPosition, is_live, range_scan, nearest_scan}
-use Rattle.mi_tree.specs.Passing.{opened_count, candidates, kth_distance, reached_count}
+use Rattle.mi_rules.specs.Passing.{opened_count, candidates, kth_distance, reached_count}
 
 -- update number n of the log is this one
 pub record IsUpdateNumber (log : List LogEvent) (n : ℕ) (e : Entered) : Type 0 where
@@ -39,19 +39,20 @@ pub record IsNearest (c : Configuration) (log : List LogEvent) (count : ℕ) (qu
   pub rows_are : rows ≡ nearest_scan (metric_space c) (history_at log p) query count
   pub cells_are : cells ≡ reached_count (space_of c) c.levels (at_position log p) query (kth_distance count rows)
 
--- The reply to operation number op of the session. A pair that isn't listed is not right.
-abbrev pub Right : Configuration → List LogEvent → ℕ → ℕ → Op → Reply → Type 0
-Right c log session op (Insert id vector) (reply.Stored n) =
+-- The reply to operation number op of the session, where so many pages are allotted at the end. A pair that isn't listed is not right.
+abbrev pub Right : Configuration → List LogEvent → ℕ → ℕ → ℕ → Op → Reply → Type 0
+Right c log allotted session op (Insert id vector) (reply.Stored n) =
     IsUpdateNumber log n (record { session = session; op = op; update = update.Insert id vector }) × (is_live id (updates_before n log) ≡ false)
-Right c log session op (Delete id) (reply.Removed n) =
+Right c log allotted session op (Delete id) (reply.Removed n) =
     IsUpdateNumber log n (record { session = session; op = op; update = update.Delete id }) × (is_live id (updates_before n log) ≡ true)
-Right c log session op (Insert id vector) (reply.Present p) = IsPosition log p × (is_live id (history_at log p) ≡ true)
-Right c log session op (Delete id) (reply.Absent p) = IsPosition log p × (is_live id (history_at log p) ≡ false)
-Right c log session op (Insert id vector) (reply.Full limit) =
+Right c log allotted session op (Insert id vector) (reply.Present p) = IsPosition log p × (is_live id (history_at log p) ≡ true)
+Right c log allotted session op (Delete id) (reply.Absent p) = IsPosition log p × (is_live id (history_at log p) ≡ false)
+Right c log allotted session op (Insert id vector) (reply.Full limit) =
     (limit ≡ c.updates) × (length (updates_of log) ≡ limit) × (is_live id (updates_of log) ≡ false)
-Right c log session op (Delete id) (reply.Full limit) =
+Right c log allotted session op (Delete id) (reply.Full limit) =
     (limit ≡ c.updates) × (length (updates_of log) ≡ limit) × (is_live id (updates_of log) ≡ true)
-Right c log session op (Range radius query) (reply.Range p rows cells distances) = IsRange c log radius query p rows cells distances
-Right c log session op (Nearest count query) (reply.Nearest p rows cells) = IsNearest c log count query p rows cells
-Right c log session op o reply.Memory = Unit {0}
-Right c log session op o y = ⊥
+Right c log allotted session op (Insert id vector) (reply.NoPages limit) = (limit ≡ c.pages) × (allotted ≡ c.pages)
+Right c log allotted session op (Range radius query) (reply.Range p rows cells distances) = IsRange c log radius query p rows cells distances
+Right c log allotted session op (Nearest count query) (reply.Nearest p rows cells) = IsNearest c log count query p rows cells
+Right c log allotted session op o reply.Memory = Unit {0}
+Right c log allotted session op o y = ⊥

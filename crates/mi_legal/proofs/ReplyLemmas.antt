@@ -1,4 +1,4 @@
--- Logs that go on. What is right in a log is right in one that goes on, and a reply's position reaches as far there.
+-- Replies in logs that go on. What is right in a log is right in one that goes on, and a reply's position reaches as far there.
 use Rattle.std.proofs.Common.{◌≡◌, ℕ, zero, suc, ◌+◌, ◌-◌, ◌<◌, ◌≤◌, List, [], ◌∷◌, ◌++◌, length, take, Some, refl, sym, ap, ◌∙◌, arith, length-append, append-nil, append_assoc}
 use Rattle.std.specs.Prelude.{ℤ, slice_get}
 use Rattle.std.proofs.lemmas.List.{length-map, nil_from_length, take-append-le}
@@ -15,39 +15,12 @@ use Rattle.mi_base.specs.declared.records.Row.{Row}
 use Rattle.mi_base.specs.Configuration.{Configuration, metric_space, space_of}
 use Rattle.mi_base.specs.History.{Entered, entered, updates_of, is_live, events_at, at_position, IsPosition, range_scan, nearest_scan}
 use Rattle.mi_base.proofs.HistoryLemmas.{entered-append, updates_of-append}
-use Rattle.mi_tree.specs.Legal.{events_to, reach}
-use Rattle.mi_tree.specs.Passing.{opened_count, candidates, kth_distance, reached_count}
-use Rattle.mi_tree.specs.Right.{Right, IsUpdateNumber, IsNearest, IsRange, updates_before}
-use Rattle.mi_plain.specs.Answering.{Grows, GrowsBySplits}
+use Rattle.mi_tree.proofs.GrowingLemmas.{at_grows, length-updates_of, position_grows}
+use Rattle.mi_legal.specs.Legal.{events_to, reach}
+use Rattle.mi_rules.specs.Passing.{opened_count, candidates, kth_distance, reached_count}
+use Rattle.mi_legal.specs.Right.{Right, IsUpdateNumber, IsNearest, IsRange, updates_before}
 
-pub grows_none : (log : List LogEvent) → Grows log log
-grows_none log = record { by = []; is = sym (append-nil log) }
-
-pub grows_on : (old mid new : List LogEvent) → Grows old mid → Grows mid new → Grows old new
-grows_on old mid new a b = record { by = a.by ++ b.by; is = b.is ∙ ap (λ l. l ++ b.by) a.is ∙ append_assoc old a.by b.by }
-
-pub grows_length : (old new : List LogEvent) → Grows old new → length old ≤ length new
-grows_length old new g = omega (arith, ap length g.is, length-append old g.by)
-
--- splits after splits
-pub splits_on : (old mid new : List LogEvent) → GrowsBySplits old mid → GrowsBySplits mid new → GrowsBySplits old new
-splits_on old mid new a b = record { grows = grows_on old mid new a.grows b.grows; enters = b.enters ∙ a.enters }
-
--- each update is entered once
-pub length-updates_of : (log : List LogEvent) → length (updates_of log) ≡ length (entered log)
-length-updates_of log = length-map (entered log) (λ e. e.update)
-
--- a prefix of a log is the same prefix of one that goes on
-at_grows : (log more : List LogEvent) (p : Position) → IsPosition log p → at_position (log ++ more) p ≡ at_position log p
-at_grows log more p is = take-append-le (events_at p) log more is.within
-
-position_grows : (log more : List LogEvent) (p : Position) → IsPosition log p → IsPosition (log ++ more) p
-position_grows log more p is = record {
-  within = omega (arith, is.within, length-append log more);
-  updates = ap (λ l. length (updates_of l)) (at_grows log more p is) ∙ is.updates;
-}
-
-slice_get-append : {X : Type 0} (xs ys : List X) (i : ℕ) (x : X) → slice_get xs i ≡ Some x → slice_get (xs ++ ys) i ≡ Some x
+pub slice_get-append : {X : Type 0} (xs ys : List X) (i : ℕ) (x : X) → slice_get xs i ≡ Some x → slice_get (xs ++ ys) i ≡ Some x
 slice_get-append xs ys i x h =
     let within : i < length xs = slice_get_within xs i x h in
     let longer : i < length (xs ++ ys) = omega (arith, within, length-append xs ys) in
@@ -59,7 +32,7 @@ number_grows log more n e is = record {
   stands = ap (λ es. slice_get es (n - 1)) (entered-append log more) ∙ slice_get-append (entered log) (entered more) (n - 1) e is.stands;
 }
 
-number_within : (log : List LogEvent) (n : ℕ) (e : Entered) → IsUpdateNumber log n e → n ≤ length (updates_of log)
+pub number_within : (log : List LogEvent) (n : ℕ) (e : Entered) → IsUpdateNumber log n e → n ≤ length (updates_of log)
 number_within log n e is = omega (arith, is.counted, slice_get_within (entered log) (n - 1) e is.stands, length-updates_of log)
 
 before_grows : (log more : List LogEvent) (n : ℕ) (e : Entered) → IsUpdateNumber log n e → updates_before n (log ++ more) ≡ updates_before n log
@@ -98,18 +71,19 @@ nearest_grows c log more count query p rows cells h =
       cells_are = h.cells_are ∙ ap (λ l. reached_count (space_of c) c.levels l query (kth_distance count rows)) same;
     }
 
-pub right_grows : (c : Configuration) (log more : List LogEvent) (session op : ℕ) (o : Op) (y : Reply) → StaysFull c log more → Right c log session op o y → Right c (log ++ more) session op o y
-right_grows c log more session op (Insert id v) (reply.Stored n) stays h = (number_grows log more n _ h.0, ap (is_live id) (before_grows log more n _ h.0) ∙ h.1)
-right_grows c log more session op (Delete id) (reply.Removed n) stays h = (number_grows log more n _ h.0, ap (is_live id) (before_grows log more n _ h.0) ∙ h.1)
-right_grows c log more session op (Insert id v) (reply.Present p) stays h = (position_grows log more p h.0, ap (λ l. is_live id (updates_of l)) (at_grows log more p h.0) ∙ h.1)
-right_grows c log more session op (Delete id) (reply.Absent p) stays h = (position_grows log more p h.0, ap (λ l. is_live id (updates_of l)) (at_grows log more p h.0) ∙ h.1)
-right_grows c log more session op (Insert id v) (reply.Full limit) stays h =
+pub right_grows : (c : Configuration) (log more : List LogEvent) (allotted session op : ℕ) (o : Op) (y : Reply) → StaysFull c log more → Right c log allotted session op o y
+    → Right c (log ++ more) allotted session op o y
+right_grows c log more allotted session op (Insert id v) (reply.Stored n) stays h = (number_grows log more n _ h.0, ap (is_live id) (before_grows log more n _ h.0) ∙ h.1)
+right_grows c log more allotted session op (Delete id) (reply.Removed n) stays h = (number_grows log more n _ h.0, ap (is_live id) (before_grows log more n _ h.0) ∙ h.1)
+right_grows c log more allotted session op (Insert id v) (reply.Present p) stays h = (position_grows log more p h.0, ap (λ l. is_live id (updates_of l)) (at_grows log more p h.0) ∙ h.1)
+right_grows c log more allotted session op (Delete id) (reply.Absent p) stays h = (position_grows log more p h.0, ap (λ l. is_live id (updates_of l)) (at_grows log more p h.0) ∙ h.1)
+right_grows c log more allotted session op (Insert id v) (reply.Full limit) stays h =
     let same = stays (h.1 ∙ h.0) in (h.0, ap length same ∙ h.1, ap (is_live id) same ∙ h.2)
-right_grows c log more session op (Delete id) (reply.Full limit) stays h =
+right_grows c log more allotted session op (Delete id) (reply.Full limit) stays h =
     let same = stays (h.1 ∙ h.0) in (h.0, ap length same ∙ h.1, ap (is_live id) same ∙ h.2)
-right_grows c log more session op (Range radius query) (reply.Range p rows cells distances) stays h = range_grows c log more radius query p rows cells distances h
-right_grows c log more session op (Nearest count query) (reply.Nearest p rows cells) stays h = nearest_grows c log more count query p rows cells h
-right_grows c log more session op o y stays h = h
+right_grows c log more allotted session op (Range radius query) (reply.Range p rows cells distances) stays h = range_grows c log more radius query p rows cells distances h
+right_grows c log more allotted session op (Nearest count query) (reply.Nearest p rows cells) stays h = nearest_grows c log more count query p rows cells h
+right_grows c log more allotted session op o y stays h = h
 
 events_to_grows : (log more : List LogEvent) (n : ℕ) → n ≤ length (updates_of log) → events_to n (log ++ more) ≡ events_to n log
 events_to_grows [] more zero h = refl
@@ -119,9 +93,9 @@ events_to_grows (Made session op u ∷ log) more (suc n) h = ap (λ m. 1 + m) (e
 events_to_grows (Split p ∷ log) more (suc n) h = ap (λ m. 1 + m) (events_to_grows log more (suc n) h)
 
 -- a right reply reaches as far in a log that goes on
-pub reach_grows : (c : Configuration) (log more : List LogEvent) (session op : ℕ) (o : Op) (y : Reply) → Right c log session op o y → reach (log ++ more) y ≡ reach log y
-reach_grows c log more session op (Insert id v) (reply.Stored n) h = ap Some (events_to_grows log more n (number_within log n _ h.0))
-reach_grows c log more session op (Delete id) (reply.Removed n) h = ap Some (events_to_grows log more n (number_within log n _ h.0))
-reach_grows c log more session op o (reply.Stored n) h = absurd h
-reach_grows c log more session op o (reply.Removed n) h = absurd h
-reach_grows c log more session op o y h = refl
+pub reach_grows : (c : Configuration) (log more : List LogEvent) (allotted session op : ℕ) (o : Op) (y : Reply) → Right c log allotted session op o y → reach (log ++ more) y ≡ reach log y
+reach_grows c log more allotted session op (Insert id v) (reply.Stored n) h = ap Some (events_to_grows log more n (number_within log n _ h.0))
+reach_grows c log more allotted session op (Delete id) (reply.Removed n) h = ap Some (events_to_grows log more n (number_within log n _ h.0))
+reach_grows c log more allotted session op o (reply.Stored n) h = absurd h
+reach_grows c log more allotted session op o (reply.Removed n) h = absurd h
+reach_grows c log more allotted session op o y h = refl

@@ -1,0 +1,5 @@
+pub mod InTurn
+pub mod Legal
+pub mod Right
+pub mod Want
+pub mod Work

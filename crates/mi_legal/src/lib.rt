@@ -1,0 +1,6 @@
+//! When a reply is right in a log, and when replies and a log are a legal outcome of scripts.
+#![tactic(auto)]
+
+mod laws;
+
+pub use laws::right_replies_stay_right;
