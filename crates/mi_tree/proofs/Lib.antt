@@ -1,3 +1,4 @@
+pub mod BirthLemmas
 pub mod CatLemmas
 pub mod CatalogLemmas
 pub mod CountLemmas

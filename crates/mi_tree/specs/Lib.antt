@@ -1,3 +1,4 @@
+pub mod Births
 pub mod Catalog
 pub mod Cells
 pub mod Counting

@@ -13,7 +13,9 @@ ghost use Rattle.mi_base.specs.Permutations.{is_permutation, begins};
 ghost use Rattle.mi_base.specs.Prefixes.{all_below};
 ghost use Rattle.mi_base.specs.Sorting.{SameElements};
 ghost use Rattle.mi_base.specs.Space.{MetricSpace, Space};
+ghost use Rattle.mi_base.specs.declared.records.Update.{Update};
 ghost use Rattle.mi_tree.specs.declared.counts.Placed.{Placed};
+ghost use Rattle.mi_tree.specs.Births.{born, object_born};
 ghost use Rattle.mi_tree.specs.LoneCell.{lone_cell};
 ghost use Rattle.mi_tree.specs.Catalog.{prefixes_of};
 ghost use Rattle.mi_tree.specs.Order.{in_order};
@@ -105,4 +107,9 @@ pub fn live_objects_stand_once()
 /// Without pivots the leaves are the one cell.
 pub fn cat_without_pivots()
     ensures { (m : MetricSpace) (log : List LogEvent) → AllMaySplit (grid_of (record { metric = m; pivots = [] }) 0) log → catalog_after (grid_of (record { metric = m; pivots = [] }) 0) log ≡ lone_cell log }
+{}
+
+/// The live objects with the numbers of their inserts are the live objects.
+pub fn born_objects_are_live()
+    ensures { (history : List Update) → map object_born (born history) ≡ live history }
 {}
