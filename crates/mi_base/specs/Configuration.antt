@@ -3,6 +3,7 @@ use Rattle.std.specs.Prelude.{◌≡◌, ℕ, zero, suc, ℤ, ◌≤◌, List, [
 use Rattle.std.specs.List.{AllByRecursion}
 use Rattle.mi_base.specs.declared.settings.MetricKind.{MetricKind}
 use Rattle.mi_base.specs.declared.settings.MetricKind.TheVariants.{L1, Max, Hamming, Table}
+use Rattle.mi_base.specs.declared.limits.TheConstants.{MAX_CELL, MAX_DIMS, MAX_DISTANCE, MAX_LEVELS, MAX_PAGES, MAX_PIVOTS, MAX_ROWS, MAX_UPDATES}
 use Rattle.mi_base.specs.Space.{MetricSpace, Space, metric_of}
 
 pub record Configuration : Type 0 where
@@ -24,12 +25,12 @@ space_of c = record { metric = metric_space c; pivots = c.pivots }
 -- 1 to 128 values up to 128,000,000
 pub record IsTableRow (row : List ℕ) : Type 0 where
   pub some : 1 ≤ length row
-  pub few : length row ≤ 128
-  pub small : AllByRecursion (λ value. value ≤ 128000000) row
+  pub few : length row ≤ MAX_ROWS
+  pub small : AllByRecursion (λ value. value ≤ MAX_DISTANCE) row
 
 pub record IsTable (rows : List (List ℕ)) : Type 0 where
   pub some : 1 ≤ length rows
-  pub few : length rows ≤ 128
+  pub few : length rows ≤ MAX_ROWS
   pub each : AllByRecursion IsTableRow rows
 
 -- rows stand under a table alone, and there is one coordinate then
@@ -42,14 +43,14 @@ HasItsRows Hamming dims rows = rows ≡ []
 -- with no pivots there is one cell; else a prefix has at most as many places as there are pivots, and 6
 abbrev pub IsDepth : ℕ → ℕ → Type 0
 IsDepth zero levels = levels ≡ 0
-IsDepth (suc n) levels = (1 ≤ levels) × (levels ≤ min 6 (suc n))
+IsDepth (suc n) levels = (1 ≤ levels) × (levels ≤ min MAX_LEVELS (suc n))
 
 pub record IsWithinLimits (c : Configuration) : Type 0 where
-  pub dims : (1 ≤ c.dims) × (c.dims ≤ 64)
+  pub dims : (1 ≤ c.dims) × (c.dims ≤ MAX_DIMS)
   pub rows : HasItsRows c.metric c.dims c.rows
-  pub few_pivots : length c.pivots ≤ 32
+  pub few_pivots : length c.pivots ≤ MAX_PIVOTS
   pub pivots : AllByRecursion (λ pivot. IsTrue ((metric_space c).fits pivot)) c.pivots
   pub levels : IsDepth (length c.pivots) c.levels
-  pub cell : (1 ≤ c.cell) × (c.cell ≤ 10000)
-  pub updates : (1 ≤ c.updates) × (c.updates ≤ 200000)
-  pub pages : (1 ≤ c.pages) × (c.pages ≤ 200000)
+  pub cell : (1 ≤ c.cell) × (c.cell ≤ MAX_CELL)
+  pub updates : (1 ≤ c.updates) × (c.updates ≤ MAX_UPDATES)
+  pub pages : (1 ≤ c.pages) × (c.pages ≤ MAX_PAGES)

@@ -3,13 +3,14 @@ use Rattle.std.specs.Prelude.{ℕ, ℤ, ◌==◌, ◌&&◌, List, [], ◌∷◌,
 use Rattle.std.specs.declared.cmp.Ordering.{Ordering}
 use Rattle.std.specs.List.{range_with_len}
 use Rattle.std.specs.Ordering.{nat_cmp, ordering_then}
+use Rattle.mi_base.specs.declared.limits.TheConstants.{MAX_PIVOTS}
 use Rattle.mi_base.specs.Prefixes.{all_below, are_different}
 use Rattle.mi_base.specs.Sorting.{sorted}
 use Rattle.mi_base.specs.Space.{Space}
 
 -- at most 32 numbers, each below their count, none twice
 abbrev pub is_permutation : List ℕ → Bool
-is_permutation ps = nat_le (length ps) 32 && (all_below (length ps) ps && are_different ps)
+is_permutation ps = nat_le (length ps) MAX_PIVOTS && (all_below (length ps) ps && are_different ps)
 
 -- the second list begins with the first
 abbrev pub begins : List ℕ → List ℕ → Bool

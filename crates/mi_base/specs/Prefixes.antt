@@ -1,6 +1,7 @@
 -- What names a cell.
 use Rattle.std.specs.Prelude.{ℕ, ◌&&◌, List, [], ◌∷◌, length, Bool, true, not, ◌==◌, nat_le, nat_lt}
 use Rattle.std.specs.List.{list_all, list_any}
+use Rattle.mi_base.specs.declared.limits.TheConstants.{MAX_LEVELS, MAX_PIVOTS}
 
 -- the number stands in the list
 abbrev pub has : ℕ → List ℕ → Bool
@@ -17,4 +18,4 @@ all_below n xs = list_all (λ x. nat_lt x n) xs
 
 -- at most 6 of 32 pivots, none twice
 abbrev pub is_prefix : List ℕ → Bool
-is_prefix ps = nat_le (length ps) 6 && (all_below 32 ps && are_different ps)
+is_prefix ps = nat_le (length ps) MAX_LEVELS && (all_below MAX_PIVOTS ps && are_different ps)

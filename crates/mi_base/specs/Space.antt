@@ -2,6 +2,7 @@
 use Rattle.std.specs.Prelude.{◌≡◌, ℕ, ℤ, pos, ◌+◌, ◌≤◌, ◌-ℤ◌, ◌==◌, ◌&&◌, List, [], ◌∷◌, length, Bool, false, IsTrue, cond, max, nat_lt, unsigned_abs, slice_index, slice_index_or}
 use Rattle.mi_base.specs.declared.settings.MetricKind.{MetricKind}
 use Rattle.mi_base.specs.declared.settings.MetricKind.TheVariants.{L1, Max, Hamming, Table}
+use Rattle.mi_base.specs.declared.limits.TheConstants.{MAX_DISTANCE}
 use Rattle.mi_base.specs.Vectors.{all_coordinates}
 
 -- which vectors fit a metric, and the distance of two
@@ -15,7 +16,7 @@ pub record IsMetric (m : MetricSpace) : Type 0 where
   pub apart : (x y : List ℤ) → IsTrue (m.fits x) → IsTrue (m.fits y) → m.d x y ≡ 0 → x ≡ y
   pub symmetric : (x y : List ℤ) → IsTrue (m.fits x) → IsTrue (m.fits y) → m.d x y ≡ m.d y x
   pub triangle : (x y z : List ℤ) → IsTrue (m.fits x) → IsTrue (m.fits y) → IsTrue (m.fits z) → m.d x z ≤ m.d x y + m.d y z
-  pub bound : (x y : List ℤ) → IsTrue (m.fits x) → IsTrue (m.fits y) → m.d x y ≤ 128000000
+  pub bound : (x y : List ℤ) → IsTrue (m.fits x) → IsTrue (m.fits y) → m.d x y ≤ MAX_DISTANCE
 
 -- L1: the sum of the absolute differences
 abbrev pub sum_of_differences : List ℤ → List ℤ → ℕ

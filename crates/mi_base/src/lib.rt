@@ -4,6 +4,7 @@
 mod copies;
 mod counting;
 mod ids;
+mod limits;
 mod lists;
 mod permutations;
 mod prefixes;
@@ -16,6 +17,11 @@ use arrayvec::ArrayVec;
 pub use copies::copy_rows;
 pub use counting::Steps;
 pub use ids::Id;
+pub use limits::{
+    MAX_CELL, MAX_COORDINATE, MAX_COUNT, MAX_DIMS, MAX_DISTANCE, MAX_FILE_SIZE, MAX_ID, MAX_ITEMS,
+    MAX_LEVELS, MAX_OPS, MAX_PAGES, MAX_PIVOTS, MAX_RADIUS, MAX_ROWS, MAX_SESSIONS, MAX_TURNS,
+    MAX_UPDATES,
+};
 pub use lists::{Sequence, sort_rows};
 pub use permutations::Perm;
 pub use prefixes::Prefix;
@@ -29,7 +35,7 @@ pub type Bytes = Sequence<u8>;
 /// A list of vectors.
 pub type VectorList = Sequence<Vector>;
 /// The distances of a vector to up to 32 pivots, in the pivots' order.
-pub type Dists = ArrayVec<u32, 32>;
+pub type Dists = ArrayVec<u32, MAX_PIVOTS>;
 /// One row of a distance table.
 pub type TableRow = Sequence<u32>;
 /// The rows of a distance table.

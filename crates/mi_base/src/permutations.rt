@@ -2,13 +2,14 @@
 ghost use Rattle.std.specs.Prelude.{◌≡◌, ◌<◌, ◌==◌, Some, length, IfSome, IfNone, IsTrue, slice_get, false};
 ghost use Rattle.mi_base.specs.Permutations.{is_permutation};
 
+use crate::MAX_PIVOTS;
 use arrayvec::ArrayVec;
 use std::marker::Model;
 
 /// The numbers of up to 32 pivots, each once.
 #[derive(Drop)]
 pub struct Perm {
-    numbers: ArrayVec<u8, 32>,
+    numbers: ArrayVec<u8, MAX_PIVOTS>,
 }
 
 impl Model for Perm {
@@ -29,7 +30,7 @@ impl Perm {
         ensures some { IfSome result (λ p. (p ≡ items.now) × IsTrue (is_permutation items.now)) }
         ensures none { IfNone result (is_permutation items.now ≡ false) }
     {
-        if items.len() > 32 {
+        if items.len() > MAX_PIVOTS {
             return None;
         }
         let mut numbers = ArrayVec::new();

@@ -3,14 +3,14 @@ ghost use Rattle.std.specs.Prelude.{◌≡◌, ◌<◌, ◌≤◌, ◌==◌, Som
 ghost use Rattle.mi_base.specs.Permutations.{begins};
 ghost use Rattle.mi_base.specs.Prefixes.{is_prefix};
 
-use crate::Perm;
+use crate::{MAX_LEVELS, MAX_PIVOTS, Perm};
 use arrayvec::ArrayVec;
 use std::marker::Model;
 
 /// Up to 6 pivot numbers from 0 to 31, none twice.
 #[derive(Drop)]
 pub struct Prefix {
-    pivots: ArrayVec<u8, 6>,
+    pivots: ArrayVec<u8, MAX_LEVELS>,
 }
 
 impl Model for Prefix {
@@ -39,12 +39,12 @@ impl Prefix {
         ensures some { IfSome result (λ p. (p ≡ items.now) × IsTrue (is_prefix items.now)) }
         ensures none { IfNone result (is_prefix items.now ≡ false) }
     {
-        if items.len() > 6 {
+        if items.len() > MAX_LEVELS {
             return None;
         }
         let mut pivots = ArrayVec::new();
         for item in items {
-            if *item > 31 || pivots.as_slice().contains(item) {
+            if usize::from(*item) >= MAX_PIVOTS || pivots.as_slice().contains(item) {
                 return None;
             }
             pivots.push(*item);
@@ -54,7 +54,7 @@ impl Prefix {
 
     /// The first `depth` pivots of the permutation. It takes no memory.
     pub fn of(perm: &Perm, depth: usize) -> Prefix
-        requires few { depth ≤ 6 }
+        requires few { depth ≤ MAX_LEVELS }
         requires within { depth ≤ length perm.now }
         ensures { result ≡ take depth perm.now }
     {

@@ -2,17 +2,14 @@
 ghost use Rattle.std.specs.Prelude.{◌≡◌, ◌<◌, Some, length, IfOk, IfErr, slice_get};
 ghost use Rattle.mi_base.specs.Vectors.{IsRefused, IsVector};
 
-use crate::VectorRefusal;
+use crate::{MAX_COORDINATE, MAX_DIMS, VectorRefusal};
 use arrayvec::ArrayVec;
 use std::marker::Model;
-
-/// The greatest absolute value of a coordinate.
-const MAX_COORDINATE: i64 = 1_000_000;
 
 /// A vector of 1 to 64 coordinates, each from -1,000,000 to 1,000,000.
 #[derive(Drop)]
 pub struct Vector {
-    coordinates: ArrayVec<i32, 64>,
+    coordinates: ArrayVec<i32, MAX_DIMS>,
 }
 
 impl Model for Vector {
@@ -32,13 +29,14 @@ impl Vector {
         ensures ok { IfOk result (λ v. v ≡ items.now) }
         ensures err { IfErr result (IsRefused items.now) }
     {
-        if items.is_empty() || items.len() > 64 {
+        if items.is_empty() || items.len() > MAX_DIMS {
             return Err(VectorRefusal::Length { items: items.len() });
         }
+        let most = i64::from(MAX_COORDINATE);
         let mut coordinates = ArrayVec::new();
         for (place, item) in items.iter().enumerate() {
             let value = *item;
-            if value < -MAX_COORDINATE || value > MAX_COORDINATE {
+            if value < -most || value > most {
                 return Err(VectorRefusal::Coordinate { place, value });
             }
             coordinates.push(value as i32);

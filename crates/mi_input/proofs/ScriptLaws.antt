@@ -1,7 +1,8 @@
 -- What is read as a script may stand in one.
-use Rattle.std.proofs.Common.{◌≡◌, ℕ, ℤ, ◌+◌, ◌-◌, ◌^◌, ◌==◌, ◌≤◌, ◌<◌, true, IsTrue, List, [], ◌∷◌, length, drop, Ok, Err, inl, inr, arith, lit≤, length-drop}
+use Rattle.std.proofs.Common.{◌≡◌, ℕ, ℤ, ◌+◌, ◌==◌, ◌≤◌, true, IsTrue, List, [], ◌∷◌, length, drop, Ok, Err, inl, inr, arith, lit≤, length-drop}
 use Rattle.std.specs.List.{AllByRecursion}
 use Rattle.std.proofs.lemmas.Bool.{eqb-true}
+use Rattle.mi_base.specs.declared.limits.TheConstants.{MAX_COUNT, MAX_ID, MAX_OPS, MAX_RADIUS}
 use Rattle.mi_base.specs.declared.records.Op.{Op}
 use Rattle.mi_base.specs.declared.records.Op.TheVariants.{Insert, Delete, Range, Nearest}
 use Rattle.mi_base.specs.Configuration.{Configuration, IsWithinLimits, metric_space}
@@ -24,8 +25,8 @@ vector_fits c fields v within n h = by_metric c.metric c.dims c.rows fields v wi
 rest_length : (fields : List (List ℕ)) (dims : ℕ) → (length fields == dims + 2) ≡ true → length (drop 2 fields) ≡ dims
 rest_length fields dims h = let n : length fields ≡ dims + 2 = eqb-true _ _ h in omega (arith, length-drop 2 fields, n)
 
-id_small : (field : List ℕ) (id : ℕ) → id_in field ≡ Ok id → id < 2 ^ 40
-id_small field id h = let t = count_ok 0 (2 ^ 40 - 1) field id h in omega (arith, t.1)
+id_small : (field : List ℕ) (id : ℕ) → id_in field ≡ Ok id → id ≤ MAX_ID
+id_small field id h = (count_ok 0 MAX_ID field id h).1
 
 insert_over : (c : Configuration) (fields : List (List ℕ)) (op : Op) → IsWithinLimits c → insert_in (shape_of c) fields ≡ Ok op → IsOpOver (metric_space c) op
 unfolding insert_in
@@ -50,11 +51,10 @@ range_over : (c : Configuration) (fields : List (List ℕ)) (op : Op) → IsWith
 unfolding range_in
 range_over c fields op within h = elim (chosen (length fields == c.dims + 2) _ (Err Fields) (Ok op) h) [
   | inl full ↦
-      let (radius, first, more) = bind_ok (count_in 0 2147483647 (field_in 1 fields)) (λ radius. vector_in (shape_of c) (drop 2 fields) >>= λ v. Ok (Range radius v)) op full.1 in
+      let (radius, first, more) = bind_ok (count_in 0 MAX_RADIUS (field_in 1 fields)) (λ radius. vector_in (shape_of c) (drop 2 fields) >>= λ v. Ok (Range radius v)) op full.1 in
       let (v, second, e) = bind_ok (vector_in (shape_of c) (drop 2 fields)) (λ v. Ok (Range radius v)) op more in
-      let t = count_ok 0 2147483647 (field_in 1 fields) radius first in
-      let small : radius < 2 ^ 31 = omega (arith, t.1) in
-      rw (← ok_same (Range radius v) op e) (small, vector_fits c (drop 2 fields) v within (rest_length fields c.dims full.0) second)
+      let t = count_ok 0 MAX_RADIUS (field_in 1 fields) radius first in
+      rw (← ok_same (Range radius v) op e) (t.1, vector_fits c (drop 2 fields) v within (rest_length fields c.dims full.0) second)
   | inr other ↦ cc other.1
 ]
 
@@ -62,15 +62,15 @@ nearest_over : (c : Configuration) (fields : List (List ℕ)) (op : Op) → IsWi
 unfolding nearest_in
 nearest_over c fields op within h = elim (chosen (length fields == c.dims + 2) _ (Err Fields) (Ok op) h) [
   | inl full ↦
-      let (count, first, more) = bind_ok (count_in 1 1000000 (field_in 1 fields)) (λ count. vector_in (shape_of c) (drop 2 fields) >>= λ v. Ok (Nearest count v)) op full.1 in
+      let (count, first, more) = bind_ok (count_in 1 MAX_COUNT (field_in 1 fields)) (λ count. vector_in (shape_of c) (drop 2 fields) >>= λ v. Ok (Nearest count v)) op full.1 in
       let (v, second, e) = bind_ok (vector_in (shape_of c) (drop 2 fields)) (λ v. Ok (Nearest count v)) op more in
-      let t = count_ok 1 1000000 (field_in 1 fields) count first in
+      let t = count_ok 1 MAX_COUNT (field_in 1 fields) count first in
       rw (← ok_same (Nearest count v) op e) (t.0, t.1, vector_fits c (drop 2 fields) v within (rest_length fields c.dims full.0) second)
   | inr other ↦ cc other.1
 ]
 
 op_over : (c : Configuration) (number : ℕ) (fields : List (List ℕ)) (op : Op) → IsWithinLimits c → op_in (shape_of c) number fields ≡ Ok op
-    → (number ≤ 200000) × IsOpOver (metric_space c) op
+    → (number ≤ MAX_OPS) × IsOpOver (metric_space c) op
 op_over c number fields op within h =
     let o = op_ok (shape_of c) number fields op h in (
       o.0,
@@ -83,8 +83,8 @@ op_over c number fields op within h =
       ],
     )
 
-records_over : (c : Configuration) (number : ℕ) (records : List (List (List ℕ))) (ops : List Op) → IsWithinLimits c → number ≤ 200001 → script_from (shape_of c) number records ≡ Ok ops
-    → (length ops + number ≤ 200001) × AllByRecursion (IsOpOver (metric_space c)) ops
+records_over : (c : Configuration) (number : ℕ) (records : List (List (List ℕ))) (ops : List Op) → IsWithinLimits c → number ≤ MAX_OPS + 1 → script_from (shape_of c) number records ≡ Ok ops
+    → (length ops + number ≤ MAX_OPS + 1) × AllByRecursion (IsOpOver (metric_space c)) ops
 unfolding script_from
 records_over c number [] ops within few h = let e : [] ≡ ops = ok_same [] ops h in rw (← e) (omega arith, tt)
 records_over c number (fields ∷ rest) ops within few h =

@@ -1,6 +1,7 @@
 -- The schedule in a file.
 use Rattle.std.specs.Prelude.{ℕ, ◌+◌, ◌<◌, ◌≤◌, List, [], ◌∷◌, length, sum_by, Result, Ok, Err}
 use Rattle.std.specs.List.{AllByRecursion}
+use Rattle.mi_base.specs.declared.limits.TheConstants.{MAX_ITEMS, MAX_TURNS}
 use Rattle.mi_base.specs.declared.records.Actor.{Actor}
 use Rattle.mi_base.specs.declared.records.Actor.TheVariants.{Session, Splitter}
 use Rattle.mi_base.specs.declared.records.Take.{Take}
@@ -47,6 +48,6 @@ turns_of (Turns count) = count
 turns_of Operation = 0
 
 pub record IsScheduleOf (sessions : ℕ) (items : List ScheduleItem) : Type 0 where
-  pub few : length items ≤ 1000000
+  pub few : length items ≤ MAX_ITEMS
   pub each : AllByRecursion (IsItemOf sessions) items
-  pub turns : sum_by (λ item. turns_of item.take) items ≤ 100000000
+  pub turns : sum_by (λ item. turns_of item.take) items ≤ MAX_TURNS

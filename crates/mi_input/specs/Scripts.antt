@@ -1,5 +1,6 @@
 -- The script in a file.
-use Rattle.std.specs.Prelude.{ℕ, ◌+◌, ◌-◌, ◌^◌, ◌==◌, if◌then◌else◌, List, [], ◌∷◌, length, drop, codes, Result, Ok, Err}
+use Rattle.std.specs.Prelude.{ℕ, ◌+◌, ◌==◌, if◌then◌else◌, List, [], ◌∷◌, length, drop, codes, Result, Ok, Err}
+use Rattle.mi_base.specs.declared.limits.TheConstants.{MAX_COUNT, MAX_ID, MAX_OPS, MAX_RADIUS}
 use Rattle.mi_base.specs.declared.records.Op.{Op}
 use Rattle.mi_base.specs.declared.records.Op.TheVariants.{Insert, Delete, Range, Nearest}
 use Rattle.mi_base.specs.Configuration.{Configuration}
@@ -12,7 +13,7 @@ use Rattle.mi_input.specs.Records.{begins_with, field_in, limited, records_in}
 use Rattle.mi_input.specs.Vectors.{shape_of, vector_in}
 
 abbrev pub id_in : List ℕ → Result ℕ Reason
-id_in field = count_in 0 (2 ^ 40 - 1) field
+id_in field = count_in 0 MAX_ID field
 
 -- insert,ID,COORDINATES
 unfoldable pub insert_in : Shape → List (List ℕ) → Result Op Reason
@@ -35,7 +36,7 @@ delete_in fields =
 unfoldable pub range_in : Shape → List (List ℕ) → Result Op Reason
 range_in shape fields =
     if length fields == shape.dims + 2 then (do
-      radius ← count_in 0 2147483647 (field_in 1 fields)
+      radius ← count_in 0 MAX_RADIUS (field_in 1 fields)
       query ← vector_in shape (drop 2 fields)
       Ok (Range radius query))
     else Err Fields
@@ -44,7 +45,7 @@ range_in shape fields =
 unfoldable pub nearest_in : Shape → List (List ℕ) → Result Op Reason
 nearest_in shape fields =
     if length fields == shape.dims + 2 then (do
-      count ← count_in 1 1000000 (field_in 1 fields)
+      count ← count_in 1 MAX_COUNT (field_in 1 fields)
       query ← vector_in shape (drop 2 fields)
       Ok (Nearest count query))
     else Err Fields
@@ -52,10 +53,10 @@ nearest_in shape fields =
 -- the operation in the record of this number, or the first thing that is wrong with it
 unfoldable pub op_in : Shape → ℕ → List (List ℕ) → Result Op Reason
 op_in shape number fields =
-    if begins_with (codes "insert") fields then limited 200000 number (insert_in shape fields)
-    else if begins_with (codes "delete") fields then limited 200000 number (delete_in fields)
-    else if begins_with (codes "range") fields then limited 200000 number (range_in shape fields)
-    else if begins_with (codes "nearest") fields then limited 200000 number (nearest_in shape fields)
+    if begins_with (codes "insert") fields then limited MAX_OPS number (insert_in shape fields)
+    else if begins_with (codes "delete") fields then limited MAX_OPS number (delete_in fields)
+    else if begins_with (codes "range") fields then limited MAX_OPS number (range_in shape fields)
+    else if begins_with (codes "nearest") fields then limited MAX_OPS number (nearest_in shape fields)
     else Err Word
 
 -- the operations in these records, of which this is the number of the first, up to the first fault

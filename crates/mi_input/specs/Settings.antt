@@ -1,6 +1,7 @@
 -- The settings in a file.
 use Rattle.std.specs.Prelude.{◌≡◌, ℕ, ℤ, ◌+◌, ◌==◌, ◌&&◌, ◌≤◌, if◌then◌else◌, List, [], ◌∷◌, length, drop, bytes_eq, codes, Result, Ok, Err, IsTrue, min, nat_le}
 use Rattle.std.specs.List.{AllByRecursion}
+use Rattle.mi_base.specs.declared.limits.TheConstants.{MAX_CELL, MAX_DIMS, MAX_DISTANCE, MAX_LEVELS, MAX_PAGES, MAX_PIVOTS, MAX_ROWS, MAX_UPDATES}
 use Rattle.mi_base.specs.declared.settings.MetricKind.{MetricKind}
 use Rattle.mi_base.specs.declared.settings.MetricKind.TheVariants.{L1, Max, Hamming, Table}
 use Rattle.mi_base.specs.Configuration.{Configuration, HasItsRows, IsDepth, IsTable}
@@ -43,20 +44,20 @@ setting_in word least most fields =
 -- the greatest number of coordinates
 abbrev pub most_dims : MetricKind → ℕ
 most_dims Table = 1
-most_dims L1 = 64
-most_dims Max = 64
-most_dims Hamming = 64
+most_dims L1 = MAX_DIMS
+most_dims Max = MAX_DIMS
+most_dims Hamming = MAX_DIMS
 
 -- 1 to 128 values
 unfoldable pub values_in : List (List ℕ) → Result (List ℕ) Reason
 values_in fields =
-    if nat_le 1 (length fields) && nat_le (length fields) 128 then read_each (count_in 0 128000000) fields
+    if nat_le 1 (length fields) && nat_le (length fields) MAX_ROWS then read_each (count_in 0 MAX_DISTANCE) fields
     else Err Fields
 
 -- row,VALUES: the table's row of this number, from 1
 unfoldable pub row_in : ℕ → List (List ℕ) → Result (List ℕ) Reason
 row_in number fields =
-    if begins_with (codes "row") fields then limited 128 number (values_in (drop 1 fields))
+    if begins_with (codes "row") fields then limited MAX_ROWS number (values_in (drop 1 fields))
     else Err Word
 
 -- one row at least
@@ -83,7 +84,7 @@ measure_in place = do
 
 -- pivot,COORDINATES: the pivot of this number, from 1
 unfoldable pub pivot_in : Shape → ℕ → List (List ℕ) → Result (List ℤ) Reason
-pivot_in shape number fields = limited 32 number (if length fields == shape.dims + 1 then vector_in shape (drop 1 fields) else Err Fields)
+pivot_in shape number fields = limited MAX_PIVOTS number (if length fields == shape.dims + 1 then vector_in shape (drop 1 fields) else Err Fields)
 
 -- pivot,COORDINATES ..: there may be none
 unfoldable pub pivots_in : Shape → Place → Result (List (List ℤ) × Place) Fault
@@ -91,15 +92,15 @@ pivots_in shape place = run_of (codes "pivot") (pivot_in shape) 0 place.number p
 
 -- levels,N: 0 without pivots, else at least 1 and at most 6 and the number of pivots
 abbrev pub levels_in : ℕ → List (List ℕ) → Result ℕ Reason
-levels_in pivots fields = setting_in (codes "levels") (min 1 pivots) (min 6 pivots) fields
+levels_in pivots fields = setting_in (codes "levels") (min 1 pivots) (min MAX_LEVELS pivots) fields
 
 -- levels,N / cell,N / updates,N / pages,N
 unfoldable pub sizes_in : ℕ → Place → Result (Sizes × Place) Fault
 sizes_in pivots place = do
   levels ← reading (levels_in pivots) place
-  cell ← reading (setting_in (codes "cell") 1 10000) levels.1
-  updates ← reading (setting_in (codes "updates") 1 200000) cell.1
-  pages ← reading (setting_in (codes "pages") 1 200000) updates.1
+  cell ← reading (setting_in (codes "cell") 1 MAX_CELL) levels.1
+  updates ← reading (setting_in (codes "updates") 1 MAX_UPDATES) cell.1
+  pages ← reading (setting_in (codes "pages") 1 MAX_PAGES) updates.1
   Ok (record { levels = levels.0; cell = cell.0; updates = updates.0; pages = pages.0 }, pages.1)
 
 -- the settings in a file of these bytes, or its first fault
@@ -121,18 +122,18 @@ settings_in bytes = do
 
 -- what the settings want of the first part, of the pivots, and of the last
 pub record IsMeasure (measure : Measure) : Type 0 where
-  pub dims : (1 ≤ measure.dims) × (measure.dims ≤ 64)
+  pub dims : (1 ≤ measure.dims) × (measure.dims ≤ MAX_DIMS)
   pub rows : HasItsRows measure.metric measure.dims measure.rows
 
 pub record ArePivots (measure : Measure) (pivots : List (List ℤ)) : Type 0 where
-  pub few : length pivots ≤ 32
+  pub few : length pivots ≤ MAX_PIVOTS
   pub fit : AllByRecursion (λ pivot. IsTrue ((metric_of measure.metric measure.dims measure.rows).fits pivot)) pivots
 
 pub record AreSizes (pivots : ℕ) (sizes : Sizes) : Type 0 where
   pub levels : IsDepth pivots sizes.levels
-  pub cell : (1 ≤ sizes.cell) × (sizes.cell ≤ 10000)
-  pub updates : (1 ≤ sizes.updates) × (sizes.updates ≤ 200000)
-  pub pages : (1 ≤ sizes.pages) × (sizes.pages ≤ 200000)
+  pub cell : (1 ≤ sizes.cell) × (sizes.cell ≤ MAX_CELL)
+  pub updates : (1 ≤ sizes.updates) × (sizes.updates ≤ MAX_UPDATES)
+  pub pages : (1 ≤ sizes.pages) × (sizes.pages ≤ MAX_PAGES)
 
 -- the same of the rows alone
 abbrev pub AreItsRows : MetricKind → List (List ℕ) → Type 0

@@ -1,5 +1,6 @@
 -- The vectors in the fields of records.
 use Rattle.std.specs.Prelude.{ℕ, ℤ, pos, neg_ℤ, ◌-◌, ◌≤◌, ◌≤ℤ◌, List, length, Result}
+use Rattle.mi_base.specs.declared.limits.TheConstants.{MAX_COORDINATE, MAX_DIMS}
 use Rattle.mi_base.specs.declared.settings.MetricKind.{MetricKind}
 use Rattle.mi_base.specs.declared.settings.MetricKind.TheVariants.{L1, Max, Hamming, Table}
 use Rattle.mi_base.specs.Configuration.{Configuration}
@@ -11,16 +12,16 @@ use Rattle.mi_input.specs.Records.{read_each}
 -- the least coordinate
 abbrev pub lowest : MetricKind → ℤ
 lowest Table = pos 0
-lowest L1 = neg_ℤ (pos 1000000)
-lowest Max = neg_ℤ (pos 1000000)
-lowest Hamming = neg_ℤ (pos 1000000)
+lowest L1 = neg_ℤ (pos MAX_COORDINATE)
+lowest Max = neg_ℤ (pos MAX_COORDINATE)
+lowest Hamming = neg_ℤ (pos MAX_COORDINATE)
 
 -- the greatest coordinate, which under a table is the last row's number
 abbrev pub highest : MetricKind → List (List ℕ) → ℤ
 highest Table rows = pos (length rows - 1)
-highest L1 rows = pos 1000000
-highest Max rows = pos 1000000
-highest Hamming rows = pos 1000000
+highest L1 rows = pos MAX_COORDINATE
+highest Max rows = pos MAX_COORDINATE
+highest Hamming rows = pos MAX_COORDINATE
 
 -- how many coordinates a vector has, and from where to where each is
 abbrev pub shape_under : MetricKind → ℕ → List (List ℕ) → Shape
@@ -36,6 +37,6 @@ vector_in shape fields = read_each (whole_in shape.lowest shape.highest) fields
 -- a vector of this shape is one
 pub record IsShape (shape : Shape) : Type 0 where
   pub some : 1 ≤ shape.dims
-  pub few : shape.dims ≤ 64
-  pub lowest : neg_ℤ (pos 1000000) ≤ℤ shape.lowest
-  pub highest : shape.highest ≤ℤ pos 1000000
+  pub few : shape.dims ≤ MAX_DIMS
+  pub lowest : neg_ℤ (pos MAX_COORDINATE) ≤ℤ shape.lowest
+  pub highest : shape.highest ≤ℤ pos MAX_COORDINATE

@@ -11,18 +11,15 @@ use crate::records::Records;
 use crate::settings::Measure;
 use crate::vectors::Shape;
 use csv::ByteRecord;
-use mi_base::{Vector, VectorList};
+use mi_base::{MAX_PIVOTS, Vector, VectorList};
 use std::alloc::Global;
-
-/// The greatest number of pivots.
-const MAX_PIVOTS: usize = 32;
 
 // The pivot after so many in a record that begins with its word.
 #[tactic(auto, unfolding(crate::specs::Settings::pivot_in))]
 fn pivot_of(shape: &Shape, before: usize, fields: &ByteRecord) -> Result<Vector, Reason>
     requires { IsShape shape.now }
     ensures pivot { result ≡ pivot_in shape.now (before + 1) (fields_of fields.now) }
-    ensures few { OnOk result (before < 32) }
+    ensures few { OnOk result (before < MAX_PIVOTS) }
 {
     if before >= MAX_PIVOTS {
         return Err(Reason::Limit);
@@ -38,7 +35,7 @@ fn next_pivot(records: &mut Records, shape: &Shape, before: usize) -> Result<Vec
     requires number { records.old.number < 1000 }
     requires shape { IsShape shape.now }
     ensures gives { ReadsAs (λ pivot. (pivot, records.new)) result (reading (pivot_in shape.now (before + 1)) records.old) }
-    ensures few { OnOk result (before < 32) }
+    ensures few { OnOk result (before < MAX_PIVOTS) }
     ensures number { OnOk result (records.new.number ≡ records.old.number + 1) }
 {
     let fields = records.expect()?;

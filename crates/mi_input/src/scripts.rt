@@ -14,17 +14,8 @@ use crate::numbers::count;
 use crate::records::Records;
 use crate::vectors::Shape;
 use csv::ByteRecord;
-use mi_base::{Id, Op, Script, Settings};
+use mi_base::{Id, MAX_COUNT, MAX_ID, MAX_OPS, MAX_RADIUS, Op, Script, Settings};
 use std::alloc::Global;
-
-/// The greatest number of records.
-const MAX_RECORDS: u32 = 200_000;
-/// The greatest identifier.
-const MAX_ID: u64 = (1 << 40) - 1;
-/// The greatest radius.
-const MAX_RADIUS: u64 = 2_147_483_647;
-/// The greatest count of objects that a query for the nearest asks for.
-const MAX_COUNT: u64 = 1_000_000;
 
 fn id_of(field: &[u8]) -> Result<Id, Reason>
     ensures { result ≡ id_in field.now }
@@ -67,7 +58,7 @@ fn range_of(shape: &Shape, fields: &ByteRecord) -> Result<Op, Reason>
     if fields.len() != shape.dims + 2 {
         return Err(Reason::Fields);
     }
-    let radius = count(field(fields, 1), 0, MAX_RADIUS)? as u32;
+    let radius = count(field(fields, 1), 0, MAX_RADIUS as u64)? as u32;
     let query = shape.vector(fields, 2)?;
     Ok(Op::Range { radius, query })
 }
@@ -80,7 +71,7 @@ fn nearest_of(shape: &Shape, fields: &ByteRecord) -> Result<Op, Reason>
     if fields.len() != shape.dims + 2 {
         return Err(Reason::Fields);
     }
-    let count = count(field(fields, 1), 1, MAX_COUNT)? as u32;
+    let count = count(field(fields, 1), 1, MAX_COUNT as u64)? as u32;
     let query = shape.vector(fields, 2)?;
     Ok(Op::Nearest { count, query })
 }
@@ -98,7 +89,7 @@ fn op_of(shape: &Shape, number: u32, fields: &ByteRecord) -> Result<Op, Reason>
     if !inserts && !deletes && !ranges && !nearest {
         return Err(Reason::Word);
     }
-    if number > MAX_RECORDS {
+    if number > MAX_OPS {
         return Err(Reason::Limit);
     }
     if inserts {

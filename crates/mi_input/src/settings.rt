@@ -13,17 +13,10 @@ use crate::pivots::pivots;
 use crate::records::Records;
 use crate::tables::table;
 use csv::ByteRecord;
-use mi_base::{MetricKind, Settings, TableRows};
+use mi_base::{
+    MAX_CELL, MAX_DIMS, MAX_LEVELS, MAX_PAGES, MAX_UPDATES, MetricKind, Settings, TableRows,
+};
 use std::alloc::Global;
-
-/// The greatest number of levels.
-const MAX_LEVELS: u32 = 6;
-/// The greatest number of objects in a cell.
-const MAX_CELL: u32 = 10_000;
-/// The greatest number of updates.
-const MAX_UPDATES: u32 = 200_000;
-/// The greatest number of pages.
-const MAX_PAGES: u32 = 200_000;
 
 /// How distances are measured.
 #[derive(Drop)]
@@ -123,7 +116,8 @@ fn levels(records: &mut Records, pivots: u32) -> Result<u32, InputFault>
     ensures depth { IfOk result (IsDepth pivots) }
     ensures number { OnOk result (records.new.number ≡ records.old.number + 1) }
 {
-    setting(records, b"levels", pivots.min(1), pivots.min(MAX_LEVELS))
+    let most = pivots.min(MAX_LEVELS as u32);
+    setting(records, b"levels", pivots.min(1), most)
 }
 
 fn rows(alloc: Global, records: &mut Records, metric: MetricKind) -> Result<TableRows, InputFault>
@@ -140,11 +134,11 @@ fn rows(alloc: Global, records: &mut Records, metric: MetricKind) -> Result<Tabl
 
 fn greatest_dims(metric: MetricKind) -> u32
     ensures value { result ≡ most_dims metric }
-    ensures few { result ≤ 64 }
+    ensures few { result ≤ MAX_DIMS }
 {
     match metric {
         MetricKind::Table => 1,
-        MetricKind::L1 | MetricKind::Max | MetricKind::Hamming => 64,
+        MetricKind::L1 | MetricKind::Max | MetricKind::Hamming => MAX_DIMS as u32,
     }
 }
 

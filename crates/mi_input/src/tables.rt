@@ -11,13 +11,8 @@ use crate::fields::{begins, field};
 use crate::numbers::count;
 use crate::records::Records;
 use csv::ByteRecord;
-use mi_base::{TableRow, TableRows};
+use mi_base::{MAX_DISTANCE, MAX_ROWS, TableRow, TableRows};
 use std::alloc::Global;
-
-/// The greatest number of rows, and of values in a row.
-const MAX_ROWS: usize = 128;
-/// The greatest value.
-const MAX_VALUE: u64 = 128_000_000;
 
 // The values of the record of this number, which begins with its word.
 fn values_of(alloc: Global, number: u32, fields: &ByteRecord) -> Result<TableRow, InputFault>
@@ -32,7 +27,7 @@ fn values_of(alloc: Global, number: u32, fields: &ByteRecord) -> Result<TableRow
     }
     let mut row = TableRow::new(alloc);
     for place in 1..fields.len() {
-        match count(field(fields, place), 0, MAX_VALUE) {
+        match count(field(fields, place), 0, MAX_DISTANCE as u64) {
             Ok(value) => row.push(value as u32)?,
             Err(why) => return Err(InputFault::Bad { number, why }),
         }
@@ -46,7 +41,7 @@ fn next_row(alloc: Global, records: &mut Records, before: usize) -> Result<Table
     requires { records.old.number < 1000 }
     ensures gives { ReadsAs (λ row. (row, records.new)) result (reading (row_in (before + 1)) records.old) }
     ensures row { IfOk result IsTableRow }
-    ensures few { OnOk result (before < 128) }
+    ensures few { OnOk result (before < MAX_ROWS) }
     ensures number { OnOk result (records.new.number ≡ records.old.number + 1) }
 {
     let fields = records.expect()?;

@@ -9,7 +9,7 @@ use crate::fields::field;
 use crate::numbers::whole;
 use arrayvec::ArrayVec;
 use csv::ByteRecord;
-use mi_base::{MetricKind, Settings, TableRows, Vector};
+use mi_base::{MAX_COORDINATE, MAX_DIMS, MetricKind, Settings, TableRows, Vector};
 
 /// How many coordinates a vector has, and the bounds of each.
 #[derive(Clone, Copy)]
@@ -22,14 +22,15 @@ pub(crate) struct Shape {
 impl Shape {
     /// The shape of the vectors under this metric, for so many coordinates or over these rows.
     pub(crate) fn under(metric: MetricKind, dims: u32, rows: &TableRows) -> Shape
-        requires dims { (1 ≤ dims) × (dims ≤ 64) }
+        requires dims { (1 ≤ dims) × (dims ≤ MAX_DIMS) }
         requires rows { HasItsRows metric dims rows.now }
         ensures shape { result ≡ shape_under metric dims rows.now }
         ensures is_shape { IsShape result }
     {
+        let most = i64::from(MAX_COORDINATE);
         let (lowest, highest) = match metric {
             MetricKind::Table => (0, rows.len() as i64 - 1),
-            MetricKind::L1 | MetricKind::Max | MetricKind::Hamming => (-1_000_000, 1_000_000),
+            MetricKind::L1 | MetricKind::Max | MetricKind::Hamming => (-most, most),
         };
         Shape {
             dims: dims as usize,
@@ -53,7 +54,7 @@ impl Shape {
         requires length { length (fields_of fields.now) ≡ self.now.dims + from }
         ensures { result ≡ vector_in self.now (drop from (fields_of fields.now)) }
     {
-        let mut items: ArrayVec<i64, 64> = ArrayVec::new();
+        let mut items: ArrayVec<i64, MAX_DIMS> = ArrayVec::new();
         for place in from..fields.len() {
             items.push(whole(field(fields, place), self.lowest, self.highest)?);
         }

@@ -4,6 +4,7 @@ use Rattle.std.proofs.Common.{sym, ◌∙◌, arith}
 use Rattle.std.proofs.lemmas.Int.{ints}
 use Rattle.std.proofs.lemmas.Bool.{and_parts, leb-true, eqb-true}
 use Rattle.std.proofs.lemmas.Bool.Decides.{nat_tests}
+use Rattle.mi_base.specs.declared.limits.TheConstants.{MAX_DIMS}
 use Rattle.mi_base.specs.Vectors.{all_coordinates, is_coordinate}
 use Rattle.mi_base.specs.Space.{IsMetric, sum_of_differences, greatest_difference, count_of_differences, has_dims, l1_metric, max_metric, hamming_metric}
 
@@ -65,7 +66,7 @@ sum_bound (x ∷ xs) (y ∷ ys) a b =
     let q = and_parts (is_coordinate y) (all_coordinates ys) b in
     omega (arith, abs_bound x y (leb-true (unsigned_abs x) 1000000 p.0) (leb-true (unsigned_abs y) 1000000 q.0), sum_bound xs ys p.1 q.1)
 
-pub l1_is_metric : (dims : ℕ) → dims ≤ 64 → IsMetric (l1_metric dims)
+pub l1_is_metric : (dims : ℕ) → dims ≤ MAX_DIMS → IsMetric (l1_metric dims)
 l1_is_metric dims few = record {
   same = λ x h. sum_self x;
   apart = λ x y h k e. sum_apart x y (same_length dims x y h k) e;
@@ -164,7 +165,7 @@ count_bound [] ys = omega arith
 count_bound (x ∷ xs) [] = omega arith
 count_bound (x ∷ xs) (y ∷ ys) = omega (arith, one_bound (unsigned_abs (x -ℤ y)), count_bound xs ys)
 
-pub hamming_is_metric : (dims : ℕ) → dims ≤ 64 → IsMetric (hamming_metric dims)
+pub hamming_is_metric : (dims : ℕ) → dims ≤ MAX_DIMS → IsMetric (hamming_metric dims)
 hamming_is_metric dims few = record {
   same = λ x h. count_self x;
   apart = λ x y h k e. count_apart x y (same_length dims x y h k) e;

@@ -1,5 +1,6 @@
 //! The number of positions that differ.
 ghost use Rattle.std.specs.Prelude.{◌≡◌, ◌≤◌, length};
+ghost use Rattle.mi_base.specs.declared.limits.TheConstants.{MAX_DIMS};
 ghost use Rattle.mi_base.specs.Space.{count_of_differences, hamming_metric};
 
 use crate::Metric;
@@ -13,14 +14,14 @@ pub struct Hamming {
     /// Coordinates a vector, from 1 to 64.
     pub dims: u32,
     ghost some: { 1 ≤ dims },
-    ghost few: { dims ≤ 64 },
+    ghost few: { dims ≤ MAX_DIMS },
 }
 
 impl Hamming {
     /// The metric of vectors of so many coordinates.
     pub fn new(dims: u32) -> Hamming
         requires some { 1 ≤ dims }
-        requires few { dims ≤ 64 }
+        requires few { dims ≤ MAX_DIMS }
         ensures { result.dims ≡ dims }
     {
         Hamming { dims }
@@ -47,7 +48,7 @@ impl Metric for Hamming {
 #[tactic(auto, using(crate::specs::Laws::count_bound))]
 fn count_of_differences(a: &[i32], b: &[i32]) -> u32
     requires same { length a.now ≡ length b.now }
-    requires few { length a.now ≤ 64 }
+    requires few { length a.now ≤ MAX_DIMS }
     ensures { result ≡ count_of_differences a.now b.now }
 {
     let mut count = 0;

@@ -1,5 +1,6 @@
 //! The greatest of the differences.
 ghost use Rattle.std.specs.Prelude.{◌≡◌, ◌≤◌, length};
+ghost use Rattle.mi_base.specs.declared.limits.TheConstants.{MAX_DIMS};
 ghost use Rattle.mi_base.specs.Space.{greatest_difference, max_metric};
 
 use crate::Metric;
@@ -13,14 +14,14 @@ pub struct Max {
     /// Coordinates a vector, from 1 to 64.
     pub dims: u32,
     ghost some: { 1 ≤ dims },
-    ghost few: { dims ≤ 64 },
+    ghost few: { dims ≤ MAX_DIMS },
 }
 
 impl Max {
     /// The metric of vectors of so many coordinates.
     pub fn new(dims: u32) -> Max
         requires some { 1 ≤ dims }
-        requires few { dims ≤ 64 }
+        requires few { dims ≤ MAX_DIMS }
         ensures { result.dims ≡ dims }
     {
         Max { dims }

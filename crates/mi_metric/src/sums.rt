@@ -1,5 +1,6 @@
 //! The sum of the differences.
 ghost use Rattle.std.specs.Prelude.{◌≡◌, ◌≤◌, IsTrue, length};
+ghost use Rattle.mi_base.specs.declared.limits.TheConstants.{MAX_DIMS};
 ghost use Rattle.mi_base.specs.Space.{l1_metric, sum_of_differences};
 ghost use Rattle.mi_base.specs.Vectors.{all_coordinates};
 
@@ -14,14 +15,14 @@ pub struct L1 {
     /// Coordinates a vector, from 1 to 64.
     pub dims: u32,
     ghost some: { 1 ≤ dims },
-    ghost few: { dims ≤ 64 },
+    ghost few: { dims ≤ MAX_DIMS },
 }
 
 impl L1 {
     /// The metric of vectors of so many coordinates.
     pub fn new(dims: u32) -> L1
         requires some { 1 ≤ dims }
-        requires few { dims ≤ 64 }
+        requires few { dims ≤ MAX_DIMS }
         ensures { result.dims ≡ dims }
     {
         L1 { dims }
@@ -48,7 +49,7 @@ impl Metric for L1 {
 #[tactic(auto, using(crate::specs::Laws::sum_bound))]
 fn sum_of_differences(a: &[i32], b: &[i32]) -> u32
     requires same { length a.now ≡ length b.now }
-    requires few { length a.now ≤ 64 }
+    requires few { length a.now ≤ MAX_DIMS }
     requires a { IsTrue (all_coordinates a.now) }
     requires b { IsTrue (all_coordinates b.now) }
     ensures { result ≡ sum_of_differences a.now b.now }

@@ -1,5 +1,6 @@
 -- What a read, a write and a whole text that is written mean.
 use Rattle.std.specs.Prelude.{◌≡◌, ℕ, ◌+◌, ◌-◌, ◌^◌, ◌<◌, ◌≤◌, List, ◌++◌, length, take, min, Option, Some, IfSome, Result, OnOk, OnErr}
+use Rattle.mi_base.specs.declared.limits.TheConstants.{MAX_FILE_SIZE}
 use Rattle.mi_outside.specs.declared.reading.ReadRefusal.{ReadRefusal}
 use Rattle.mi_outside.specs.declared.reading.ReadRefusal.TheVariants.{Failed, TooLarge, Memory}
 use Rattle.mi_outside.specs.declared.writing.SinkFailed.{SinkFailed}
@@ -16,13 +17,13 @@ raised_count count = min (count + 1) (2 ^ 64 - 1)
 pub record Reads (told : Option (List ℕ)) (before after : List ℕ) : Type 0 where
   pub bytes : List ℕ
   pub gained : after ≡ before ++ bytes
-  pub few : length bytes ≤ 67108864
+  pub few : length bytes ≤ MAX_FILE_SIZE
   pub same : IfSome told (λ content. bytes ≡ content)
 
 -- why a read was refused: a counted fault, a file that is too large, want of memory
 abbrev pub RefusesRead : Option (List ℕ) → ℕ → ℕ → ReadRefusal → Type 0
 RefusesRead told count count' Failed = Rose count count'
-RefusesRead told count count' TooLarge = IfSome told (λ content. 67108864 < length content)
+RefusesRead told count count' TooLarge = IfSome told (λ content. MAX_FILE_SIZE < length content)
 RefusesRead told count count' Memory = Unit {0}
 
 -- the text went out whole

@@ -4,8 +4,8 @@ ghost use Rattle.std.specs.Option.{option_copied};
 ghost use Rattle.mi_outside.specs.Contents.{SetsContent, IsPlace, content_of};
 ghost use Rattle.mi_outside.specs.Outside.{Reads, RefusesRead};
 
-use crate::{MAX_FILE, ReadRefusal};
-use mi_base::NoMemory;
+use crate::ReadRefusal;
+use mi_base::{MAX_FILE_SIZE, NoMemory};
 use std::alloc::Global;
 use std::marker::Model;
 
@@ -86,7 +86,7 @@ pub fn add_content(content: &[u8], into: &mut Vec<u8>) -> Result<(), ReadRefusal
     // A count that stays 0 didn't rise, so it never failed.
     ensures err { IfErr result (RefusesRead (Some content.now) 0 0) }
 {
-    if content.len() > MAX_FILE {
+    if content.len() > MAX_FILE_SIZE {
         return Err(ReadRefusal::TooLarge);
     }
     match into.extend_from_slice(content) {

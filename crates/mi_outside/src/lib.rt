@@ -12,7 +12,7 @@ mod writing;
 pub use gates::{Gate, GatePoint, OpenGate};
 pub use memory_files::MemoryFiles;
 pub use memory_sink::MemorySink;
-pub use reading::{Files, MAX_FILE, ReadRefusal};
+pub use reading::{Files, ReadRefusal};
 pub use steady::{SteadyFiles, SteadySink};
 pub use writing::{Sink, SinkFailed, write_all};
 

@@ -1,15 +1,12 @@
 //! Files by name.
 ghost use Rattle.std.specs.Prelude.{◌≡◌, ◌≤◌, ℕ, List, Option, IfErr, OnOk};
 
-/// The greatest number of bytes of a file that is read.
-pub const MAX_FILE: usize = 67_108_864;
-
 /// Why a file was not read.
 #[derive(Clone, Copy, Debug, PartialEq, Eq)]
 pub enum ReadRefusal {
     /// Reading failed, which the count of faults tells.
     Failed,
-    /// The file has more than 67,108,864 bytes.
+    /// The file has more bytes than a file may have.
     TooLarge,
     /// Memory was wanted and there was none.
     Memory,

@@ -7,23 +7,24 @@ use Rattle.std.proofs.lemmas.Bool.{ltb-true, cases_lt, cases_order}
 use Rattle.std.proofs.lemmas.Bool.Decides.{nat_tests}
 use Rattle.std.proofs.lemmas.List.Folds.{find-append}
 use Rattle.mi_base.specs.Configuration.{IsTable, IsTableRow}
+use Rattle.mi_base.specs.declared.limits.TheConstants.{MAX_DISTANCE}
 use Rattle.mi_base.specs.Space.{IsMetric, is_row, table_entry, table_metric}
 use Rattle.mi_table.specs.declared.faults.TableFault.{TableFault}
 use Rattle.mi_table.specs.declared.faults.TableFault.TheVariants.{NotSquare, Diagonal, Zero, Asymmetric, Triangle}
 use Rattle.mi_table.specs.Faults.{has_fault, faults_of_each, lengths, diagonal, zeros, zeros_from, asymmetries, asymmetries_from, triangles, triangles_from, triangles_through, first_among, first_fault, IsSquare}
 
 -- no entry is above 128,000,000
-value_small : (row : List ℕ) (j : ℕ) → AllByRecursion (λ value. value ≤ 128000000) row → slice_index_or row j 0 ≤ 128000000
+value_small : (row : List ℕ) (j : ℕ) → AllByRecursion (λ value. value ≤ MAX_DISTANCE) row → slice_index_or row j 0 ≤ MAX_DISTANCE
 value_small [] j h = omega arith
 value_small (x ∷ xs) zero h = h.0
 value_small (x ∷ xs) (suc j) h = value_small xs j h.1
 
-row_small : (rows : List (List ℕ)) (i j : ℕ) → AllByRecursion IsTableRow rows → table_entry rows i j ≤ 128000000
+row_small : (rows : List (List ℕ)) (i j : ℕ) → AllByRecursion IsTableRow rows → table_entry rows i j ≤ MAX_DISTANCE
 row_small [] i j h = omega arith
 row_small (x ∷ xs) zero j h = value_small x j h.0.small
 row_small (x ∷ xs) (suc i) j h = row_small xs i j h.1
 
-pub entry_small : (rows : List (List ℕ)) (i j : ℕ) → IsTable rows → table_entry rows i j ≤ 128000000
+pub entry_small : (rows : List (List ℕ)) (i j : ℕ) → IsTable rows → table_entry rows i j ≤ MAX_DISTANCE
 entry_small rows i j t = row_small rows i j t.each
 
 -- where two options in a row are none, each is

@@ -1,6 +1,7 @@
 //! The search for a table's first fault.
 ghost use Rattle.std.specs.Prelude.{◌≡◌, ◌<◌, ◌≤◌, [], length, slice_index_or};
 ghost use Rattle.mi_base.specs.Configuration.{IsTable};
+ghost use Rattle.mi_base.specs.declared.limits.TheConstants.{MAX_DISTANCE};
 ghost use Rattle.mi_base.specs.Space.{table_entry};
 ghost use Rattle.mi_table.specs.Faults.{FindsFirst, IsSquare, possible_faults, lengths, diagonal, zeros, zeros_from, asymmetries, asymmetries_from, triangles, triangles_from, triangles_through};
 
@@ -34,7 +35,7 @@ pub(crate) fn entry(rows: &TableRows, i: u32, j: u32) -> u32
     requires row { i < length rows.now }
     requires column { j < length (slice_index_or rows.now i []) }
     ensures entry { result ≡ table_entry rows.now i j }
-    ensures small { result ≤ 128000000 }
+    ensures small { result ≤ MAX_DISTANCE }
 {
     rows.as_slice()[i as usize].as_slice()[j as usize]
 }

@@ -1,5 +1,6 @@
 -- What the words and the files of a call say.
 use Rattle.std.specs.Prelude.{◌≡◌, ℕ, zero, suc, List, [], ◌∷◌, length, bytes_eq, codes, Option, Some, None, IfSome, Result, Ok, Err, IsOk, nat_le, if◌then◌else◌}
+use Rattle.mi_base.specs.declared.limits.TheConstants.{MAX_FILE_SIZE}
 use Rattle.mi_base.specs.declared.records.Op.{Op}
 use Rattle.mi_base.specs.declared.records.ScheduleItem.{ScheduleItem}
 use Rattle.mi_base.specs.Configuration.{Configuration}
@@ -52,7 +53,7 @@ located file (Err fault) = Err (Record file fault.number fault.why)
 -- what is found in a file: nothing is looked for in one that is too large
 abbrev pub in_file : {X : Type 0} → ℕ → (List ℕ → Result X Fault) → List ℕ → Result X Refusal
 in_file file read text =
-    if nat_le (length text) 67108864 then located file (read text) else Err (Record file 0 Large)
+    if nat_le (length text) MAX_FILE_SIZE then located file (read text) else Err (Record file 0 Large)
 
 -- settings have a metric, unless their table has a fault
 abbrev pub checked : Configuration → Option TableFault → Result Configuration Refusal

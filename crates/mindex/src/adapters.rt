@@ -2,7 +2,8 @@
 ghost use Rattle.std.specs.Prelude.{◌≡◌, ◌+◌, None, IfOk, length};
 ghost use Rattle.std.specs.Io.{StartsWith};
 
-use mi_outside::{Files, MAX_FILE, ReadRefusal, Sink, SinkFailed};
+use mi_base::MAX_FILE_SIZE;
+use mi_outside::{Files, ReadRefusal, Sink, SinkFailed};
 use std::fs;
 use std::io::{self, ErrorKind, Read, Write};
 use std::rt::Files as SystemFiles;
@@ -28,7 +29,7 @@ impl<'a, R: SystemFiles> RealFiles<'a, R> {
         ensures count { IfOk result (λ n. length into.new.items ≡ length into.old.items + n) }
     {
         let file = fs::open(self.rt, name)?;
-        file.take(MAX_FILE as u64 + 1).read_to_end(into)
+        file.take(MAX_FILE_SIZE as u64 + 1).read_to_end(into)
     }
 }
 
@@ -39,7 +40,7 @@ impl<R: SystemFiles> Files for RealFiles<'_, R> {
 
     fn read(&mut self, name: &str, into: &mut Vec<u8>) -> Result<(), ReadRefusal> {
         match self.read_bounded(name, into) {
-            Ok(bytes) if bytes <= MAX_FILE => Ok(()),
+            Ok(bytes) if bytes <= MAX_FILE_SIZE => Ok(()),
             Ok(_) => Err(ReadRefusal::TooLarge),
             Err(error) if error.kind() == ErrorKind::OutOfMemory => Err(ReadRefusal::Memory),
             Err(_) => {

@@ -7,9 +7,8 @@ mod workloads;
 use crate::adapters::{RealFiles, RealOut};
 use crate::mindex;
 use crate::replaying::replay_call;
-use mi_outside::{
-    Files, MAX_FILE, MemoryFiles, MemorySink, OpenGate, Sink, SteadyFiles, SteadySink,
-};
+use mi_base::MAX_FILE_SIZE;
+use mi_outside::{Files, MemoryFiles, MemorySink, OpenGate, Sink, SteadyFiles, SteadySink};
 use std::alloc::Global;
 use std::collections::BTreeMap;
 use std::fs;
@@ -564,8 +563,8 @@ fn a_file_above_the_bound_is_too_large(rt: HostRuntime) -> Result<(), Fail> {
     let alloc = rt.alloc();
     let words = replay_words(alloc)?;
     let cases = [
-        (MAX_FILE, "fault,2,1,word\n"),
-        (MAX_FILE + 1, "fault,2,0,large\n"),
+        (MAX_FILE_SIZE, "fault,2,1,word\n"),
+        (MAX_FILE_SIZE + 1, "fault,2,0,large\n"),
     ];
     for (bytes, text) in cases {
         let script = vec![in alloc; b'x'; bytes]?;

@@ -1,4 +1,5 @@
 use Rattle.std.proofs.Common.{◌<◌, length, ◌∙◌, sym, refl, arith}
+use Rattle.mi_base.specs.declared.limits.TheConstants.{MAX_DISTANCE}
 use Rattle.csv.specs.Records.{fields_of}
 use Rattle.mi_input.specs.Numbers.{count_in}
 use Rattle.mi_input.proofs.EachLemmas.{each_done, each_stops}
@@ -18,12 +19,12 @@ pub returns-in-Err-clause-gives : goal.returns-in-Err-clause-gives
 returns-in-Err-clause-gives c =
     let fields = fields_of c.args.fields.now in
     let whole = values_each fields (omega arith) (omega arith) ∙ sym c.loop-place.invariant.so_far
-    ∙ each_stops (count_in 0 128000000) c.loop-place.row fields c.loop-place.place c.in-Err.why (omega arith) (rw (← c.field.ensures) (sym c.in-Err.ensures.value)) in
+    ∙ each_stops (count_in 0 MAX_DISTANCE) c.loop-place.row fields c.loop-place.place c.in-Err.why (omega arith) (rw (← c.field.ensures) (sym c.in-Err.ensures.value)) in
     rw whole refl
 
 pub returns-clause-gives : goal.returns-clause-gives
 returns-clause-gives c =
     let fields = fields_of c.args.fields.now in
     let whole = values_each fields (omega arith) (omega arith) ∙ sym c.loop-place.invariant.so_far
-    ∙ each_done (count_in 0 128000000) c.loop-place.row fields c.loop-place.place (omega arith) in
+    ∙ each_done (count_in 0 MAX_DISTANCE) c.loop-place.row fields c.loop-place.place (omega arith) in
     rw whole refl

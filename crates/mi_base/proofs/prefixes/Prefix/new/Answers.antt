@@ -5,18 +5,18 @@ use Rattle.std.proofs.lemmas.List.{take_more}
 use Rattle.mi_base.specs.Prefixes.{has, all_below, are_different}
 use Rattle.mi_base.proofs.PrefixLemmas.{are_different-append, are_different-repeat, and-false}
 use Rattle.mi_base.proofs.prefixes.Prefix.new.Goals as goal
-use Rattle.mi_base.proofs.prefixes.Prefix.new.Goals.{then-item-gt31-via-then-item-gt31, then-item-gt31-via-else-item-gt31+then-contains}
+use Rattle.mi_base.proofs.prefixes.Prefix.new.Goals.{then-from-ge-MAX_PIVOTS-via-then-from-ge-MAX_PIVOTS, then-from-ge-MAX_PIVOTS-via-else-from-ge-MAX_PIVOTS+then-contains}
 
-pub returns-then-item-gt31-clause-none : goal.returns-then-item-gt31-clause-none
-returns-then-item-gt31-clause-none c =
+pub returns-then-from-ge-MAX_PIVOTS-clause-none : goal.returns-then-from-ge-MAX_PIVOTS-clause-none
+returns-then-from-ge-MAX_PIVOTS-clause-none c =
     let items = c.args.items.now in
     let i = c.loop-item.item-index in
-    elim c.then-item-gt31.branch [
-      | then-item-gt31-via-then-item-gt31 w ↦
-          let high : nat_lt (get_or items i 0) 32 ≡ false = let h = w.if-item-gt31.true in grind (arith, nat_tests) in
+    elim c.then-from-ge-MAX_PIVOTS.branch [
+      | then-from-ge-MAX_PIVOTS-via-then-from-ge-MAX_PIVOTS w ↦
+          let high : nat_lt (get_or items i 0) 32 ≡ false = let h = w.if-from-ge-MAX_PIVOTS.true in grind (arith, nat_tests) in
           ap (λ b. nat_le (length items) 6 && (b && are_different items)) (list_all_at (λ x. nat_lt x 32) items i 0 c.loop-item-test.true high)
           ∙ and-false (nat_le (length items) 6)
-      | then-item-gt31-via-else-item-gt31+then-contains w ↦
+      | then-from-ge-MAX_PIVOTS-via-else-from-ge-MAX_PIVOTS+then-contains w ↦
           let stands : has (get_or items i 0) (take i items) ≡ true =
           ap (has (get_or items i 0)) (sym (w.as_slice.ensures.value ∙ c.loop-item.invariant.kept)) ∙ sym w.contains.ensures.value ∙ w.if-contains.true in
           ap (λ b. nat_le (length items) 6 && (all_below 32 items && b)) (are_different-repeat items i c.loop-item-test.true stands)
@@ -28,7 +28,7 @@ pub loop-item-preserved : goal.loop-item-preserved
 loop-item-preserved c =
     let items = c.args.items.now in
     let i = c.loop-item.item-index in
-    let low : nat_lt (get_or items i 0) 32 ≡ true = let h = c.if-item-gt31.false in grind (arith, nat_tests) in
+    let low : nat_lt (get_or items i 0) 32 ≡ true = let h = c.if-from-ge-MAX_PIVOTS.false in grind (arith, nat_tests) in
     let apart : has (get_or items i 0) (take i items) ≡ false =
     ap (has (get_or items i 0)) (sym (c.as_slice.ensures.value ∙ c.loop-item.invariant.kept)) ∙ sym c.contains.ensures.value ∙ c.if-contains.false in
     record {

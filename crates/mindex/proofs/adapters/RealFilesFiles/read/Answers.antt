@@ -9,6 +9,6 @@ returns-in-Ok-clause-ok g c =
     record {
       bytes = drop (length old) new;
       gained = sym (take-append-drop (length old) new) ∙ ap (λ front. front ++ drop (length old) new) c.read_bounded.ensures.appends;
-      few = omega (arith, length-drop (length old) new, c.in-Ok.ensures.count, c.if-bytes-le-MAX_FILE.true);
+      few = omega (arith, length-drop (length old) new, c.in-Ok.ensures.count, c.if-bytes-le-MAX_FILE_SIZE.true);
       same = tt;
     }
