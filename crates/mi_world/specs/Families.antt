@@ -1,6 +1,7 @@
 -- Actors that are made from one another, and their ends.
 use Rattle.std.specs.Prelude.{◌≡◌, ◌≢◌, ◌≤◌, ◌∷◌, ◌++◌, ◌||◌, [], ℕ, None, false, IsTrue}
-use Rattle.mi_world.specs.View.{View, Grows, Later, SameOwn, SameUpdate, SameLeaf, SameSweep, SameSplit, SameFlags, SamePage, SameTry, SeesBoard}
+use Rattle.mi_tree.specs.Growing.{Grows}
+use Rattle.mi_world.specs.View.{View, Later, SameOwn, SameUpdate, SameLeaf, SameSweep, SameSplit, SameFlags, SameNote, SamePage, SameTry, SeesBoard}
 
 -- the actor claims nothing and has no pin
 pub record ClaimsNothing (v : View) : Type 0 where
@@ -82,6 +83,7 @@ pub record Absorbs (old other new : View) : Type 0 where
   pub told : new.told ≡ (old.told || other.told)
   pub lacked : new.lacked ≡ (old.lacked || other.lacked)
   pub pages : KnowsPages new other
+  pub note : SameNote old new
   pub page : SamePage old new
   pub tries : SameTry old new
   pub absorbed : new.absorbed ≡ old.absorbed ++ record { actor = other.actor; own = other.own } ∷ other.absorbed

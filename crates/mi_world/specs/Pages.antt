@@ -1,5 +1,5 @@
 -- Sections of pages: where a descent goes on, what a visit offers, commits, halves and routes.
-use Rattle.std.specs.Prelude.{◌≡◌, ◌≢◌, ◌≤◌, ◌<◌, ◌+◌, ◌&&◌, ◌∷◌, ◌++◌, [], ℕ, ℤ, List, Option, Some, None, Bool, true, false, IsTrue, length, unwrap_or}
+use Rattle.std.specs.Prelude.{◌≡◌, ◌≢◌, ◌≤◌, ◌<◌, ◌+◌, ◌&&◌, ◌∷◌, ◌^◌, ◌++◌, [], ℕ, ℤ, List, Option, Some, None, Bool, true, false, IsTrue, length, unwrap_or}
 use Rattle.std.specs.List.{list_any}
 use Rattle.mi_base.specs.declared.records.LogEvent.{LogEvent}
 use Rattle.mi_base.specs.declared.records.LogEvent.TheVariants.{Update as Made}
@@ -29,7 +29,8 @@ use Rattle.mi_world.specs.declared.answers.Visit.TheVariants.{Down, Right, Read}
 use Rattle.mi_world.specs.Boards.{owing, paying}
 use Rattle.mi_world.specs.Claims.{holds_leaf_of}
 use Rattle.mi_world.specs.Shown.{key_under, shown, within, below, from_on, offerings}
-use Rattle.mi_world.specs.View.{View, Grows, Later, SameOwn, SameUpdate, SameLeaf, SameBoard, SameTry, SeesBoard, shard_of, prefix_or, SameWork, SameApart}
+use Rattle.mi_tree.specs.Growing.{Grows}
+use Rattle.mi_world.specs.View.{View, Later, SameOwn, SameUpdate, SameLeaf, SameBoard, SameTry, SeesBoard, shard_of, prefix_or, SameWork, SameApart}
 
 -- where a descent goes on
 
@@ -47,7 +48,7 @@ pub record GoesRight (old new : View) (page p sought key : ℕ) : Type 0 where
   pub level_is : new.level p ≡ old.level page
   pub low_is : new.low p ≤ key
   pub after : old.low page < new.low p
-  pub small : new.low p < 340282366920938463463374607431768211456
+  pub small : new.low p < 2 ^ 128
   pub high_is : new.high ≡ Some (new.low p)
 
 abbrev pub IsBelow : ℕ → Option ℕ → Type 0
@@ -73,7 +74,7 @@ pub record HasTaken (new : View) : Type 0 where
 abbrev pub ReadsTo : View → View → ℕ → ℕ → Option ℕ → Type 0
 ReadsTo old new page to None = IsBelow to new.high
 ReadsTo old new page to (Some p) =
-    IsTrue (new.named p) × (new.level p ≡ 0) × (new.low p ≤ to) × (old.low page < new.low p) × (new.low p < 340282366920938463463374607431768211456) × (new.high ≡ Some (new.low p))
+    IsTrue (new.named p) × (new.level p ≡ 0) × (new.low p ≤ to) × (old.low page < new.low p) × (new.low p < 2 ^ 128) × (new.high ≡ Some (new.low p))
 
 -- visits
 
@@ -164,20 +165,20 @@ pub record Recorded (new : View) (id number : ℕ) (dists : List ℕ) : Type 0 w
   pub dists_are : kept.dists.items ≡ dists
 
 -- no update entered, and the claimed leaf is as it was
-pub record EntersNone (old new : View) : Type 0 where
+pub record NotEntered (old new : View) : Type 0 where
   pub update : SameUpdate old new
   pub leaf : SameLeaf old new
 
 -- Down, Right, Full, Crowded, PageFull, Done: each comes where none before it does.
 abbrev pub InsertAnswer : View → View → ℕ → ℕ → ℕ → List ℤ → List ℕ → Commit → Type 0
-InsertAnswer old new page op id vector dists (commit.Down p) = EntersNone old new × GoesDown old new page p 0 (insert_key new dists id 0)
-InsertAnswer old new page op id vector dists (commit.Right p) = EntersNone old new × GoesRight old new page p 0 (insert_key new dists id (next_number new))
+InsertAnswer old new page op id vector dists (commit.Down p) = NotEntered old new × GoesDown old new page p 0 (insert_key new dists id 0)
+InsertAnswer old new page op id vector dists (commit.Right p) = NotEntered old new × GoesRight old new page p 0 (insert_key new dists id (next_number new))
 InsertAnswer old new page op id vector dists (commit.Full limit) =
-    EntersNone old new × IsReached old new page 0 (insert_key new dists id (next_number new)) × IsFullLog new limit
+    NotEntered old new × IsReached old new page 0 (insert_key new dists id (next_number new)) × IsFullLog new limit
 InsertAnswer old new page op id vector dists commit.Crowded =
     SameUpdate old new × IsReached old new page 0 (insert_key new dists id (next_number new)) × HasRoom new × IsTrue (is_crowded_leaf new.settings new.seen new.leaf) × (new.wanted ≡ true)
 InsertAnswer old new page op id vector dists commit.PageFull =
-    EntersNone old new × IsReached old new page 0 (insert_key new dists id (next_number new)) × HasRoom new × (is_crowded_leaf new.settings new.seen new.leaf ≡ false) × IsFullPage new page
+    NotEntered old new × IsReached old new page 0 (insert_key new dists id (next_number new)) × HasRoom new × (is_crowded_leaf new.settings new.seen new.leaf ≡ false) × IsFullPage new page
 InsertAnswer old new page op id vector dists (commit.Done number) =
     Enters old new op id (update.Insert id vector) false number × IsReached old new page 0 (insert_key new dists id number) × Recorded new id number dists × HasTaken new
 
@@ -224,9 +225,9 @@ pub record MayDelete (v : View) (id : ℕ) : Type 0 where
 
 -- Down, Right, Full, Done: each comes where none before it does. A delete has room in any page and leaf.
 abbrev pub DeleteAnswer : View → View → ℕ → ℕ → ℕ → Commit → Type 0
-DeleteAnswer old new page op id (commit.Down p) = EntersNone old new × GoesDown old new page p 0 (delete_key old id)
-DeleteAnswer old new page op id (commit.Right p) = EntersNone old new × GoesRight old new page p 0 (delete_key old id)
-DeleteAnswer old new page op id (commit.Full limit) = EntersNone old new × IsReached old new page 0 (delete_key old id) × IsFullLog new limit
+DeleteAnswer old new page op id (commit.Down p) = NotEntered old new × GoesDown old new page p 0 (delete_key old id)
+DeleteAnswer old new page op id (commit.Right p) = NotEntered old new × GoesRight old new page p 0 (delete_key old id)
+DeleteAnswer old new page op id (commit.Full limit) = NotEntered old new × IsReached old new page 0 (delete_key old id) × IsFullLog new limit
 DeleteAnswer old new page op id commit.Crowded = ⊥
 DeleteAnswer old new page op id commit.PageFull = ⊥
 DeleteAnswer old new page op id (commit.Done number) =
@@ -300,7 +301,7 @@ TrimAnswer old new page (Down p) = ⊥
 TrimAnswer old new page (Right p) = ⊥
 TrimAnswer old new page (Read None) = new.high ≡ None
 TrimAnswer old new page (Read (Some p)) =
-    IsTrue (new.named p) × (new.level p ≡ 0) × (old.low page < new.low p) × (new.low p < 340282366920938463463374607431768211456) × (new.high ≡ Some (new.low p))
+    IsTrue (new.named p) × (new.level p ≡ 0) × (old.low page < new.low p) × (new.low p < 2 ^ 128) × (new.high ≡ Some (new.low p))
 
 pub record Trims (old new : View) (page : ℕ) (result : Visit) : Type 0 where
   pub later : Later old new

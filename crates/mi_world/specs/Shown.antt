@@ -1,5 +1,5 @@
 -- What a log shows to a reader: each live object under the key of its leaf, in key order.
-use Rattle.std.specs.Prelude.{ℕ, List, length, map, nat_le, nat_lt}
+use Rattle.std.specs.Prelude.{◌-◌, ◌^◌, ℕ, List, length, map, nat_le, nat_lt}
 use Rattle.std.specs.declared.cmp.Ordering.{Ordering}
 use Rattle.std.specs.List.{filter}
 use Rattle.std.specs.Ordering.{nat_cmp}
@@ -29,7 +29,7 @@ abbrev pub least_key : Configuration → List ℕ → ℕ
 least_key c prefix = key_under c prefix 0 0 0
 
 abbrev pub greatest_key : Configuration → List ℕ → ℕ
-greatest_key c prefix = key_under c prefix 134217727 1099511627775 1073741823
+greatest_key c prefix = key_under c prefix (2 ^ 27 - 1) (2 ^ 40 - 1) (2 ^ 30 - 1)
 
 -- what is offered of an object, and the key that it stands under
 pub record Shown : Type 0 where

@@ -1,5 +1,5 @@
 -- Sections of a split and of a sweep.
-use Rattle.std.specs.Prelude.{◌≡◌, ◌≤◌, ◌+◌, ◌-◌, ◌∷◌, ◌++◌, ◌||◌, [], ℕ, List, Option, Some, None, Bool, true, false, IsTrue, length, cond, not, slice_index, Result, Ok, Err}
+use Rattle.std.specs.Prelude.{◌≡◌, ◌≤◌, ◌<◌, ◌+◌, ◌-◌, ◌∷◌, ◌++◌, ◌||◌, [], ℕ, List, Option, Some, None, Bool, true, false, IsTrue, length, cond, not, slice_index, Result, Ok, Err}
 use Rattle.mi_base.specs.declared.records.LogEvent.{LogEvent}
 use Rattle.mi_base.specs.declared.records.LogEvent.TheVariants.{Split}
 use Rattle.mi_base.specs.declared.records.Position.{Position}
@@ -12,7 +12,8 @@ use Rattle.mi_world.specs.declared.answers.Visit.{Visit}
 use Rattle.mi_world.specs.declared.answers.Visit.TheVariants.{Down, Right, Read}
 use Rattle.mi_world.specs.Pages.{GoesDown, GoesRight, HasTaken, IsReached, IsFullPage, ReadsTo}
 use Rattle.mi_world.specs.Shown.{greatest_key, least_key}
-use Rattle.mi_world.specs.View.{View, Grows, Later, SameUpdate, SameLeaf, SameSweep, SameSplit, SameFlags, SameActors, SameBoard, SamePage, SameTry, SeesBoard, prefix_or}
+use Rattle.mi_tree.specs.Growing.{Grows}
+use Rattle.mi_world.specs.View.{View, Later, SameUpdate, SameLeaf, SameSweep, SameSplit, SameFlags, SameActors, SameBoard, SamePage, SameTry, SeesBoard, prefix_or}
 
 -- the least and the greatest key of a leaf's cell
 abbrev pub first_key : View → Option (List ℕ) → ℕ
@@ -25,9 +26,12 @@ last_key v leaf = greatest_key v.settings (prefix_or leaf)
 abbrev pub gather_key : View → ℕ
 gather_key v = cond v.splitting v.mark (first_key v v.leaf)
 
--- how many entries were gathered, and how many copied; none where no split has begun
+-- the keys of the copies to be made of what was gathered, how many these are, and how many are made; none where no split has begun
+abbrev pub copies_in : View → List ℕ
+copies_in v = cond v.splitting v.copies []
+
 abbrev pub gathered_in : View → ℕ
-gathered_in v = cond v.splitting (length v.copies) 0
+gathered_in v = length (copies_in v)
 
 abbrev pub copied_in : View → ℕ
 copied_in v = cond v.splitting v.copied 0
@@ -40,19 +44,21 @@ whole_in v = cond v.splitting v.whole false
 pub record GathersNone (old new : View) : Type 0 where
   pub splitting : new.splitting ≡ true
   pub mark : new.mark ≡ gather_key old
-  pub gathered : length new.copies ≡ gathered_in old
+  pub gathered : new.copies ≡ copies_in old
   pub copied : new.copied ≡ copied_in old
   pub whole : new.whole ≡ whole_in old
 
--- the entries of a page were gathered; where no page is named, that is all of them
-abbrev pub marks : View → Option ℕ → ℕ → Type 0
-marks new None key = new.whole ≡ true
-marks new (Some p) key = (new.whole ≡ false) × (key ≡ new.low p)
+-- A gather goes on from the page that is named. Where none is, the whole leaf is gathered, and the mark is past its keys.
+abbrev pub MarksOn : View → Option ℕ → Type 0
+MarksOn new None = (new.whole ≡ true) × (last_key new new.leaf < new.mark)
+MarksOn new (Some p) = (new.whole ≡ false) × (new.mark ≡ new.low p)
 
+-- the entries of a page were gathered beside those before
 pub record GathersPage (old new : View) (page : ℕ) (next : Option ℕ) : Type 0 where
   pub splitting : new.splitting ≡ true
-  pub marked : marks new next new.mark
-  pub gathered : gathered_in old ≤ length new.copies
+  pub marked : MarksOn new next
+  pub more : List ℕ
+  pub gathered : new.copies ≡ copies_in old ++ more
   pub few : length new.copies ≤ 200000
   pub copied : new.copied ≡ copied_in old
 
@@ -84,7 +90,7 @@ pub record MayGather (v : View) : Type 0 where
   pub leaf_is : v.leaf ≡ Some leaf
   pub wanted : v.wanted ≡ true
 
--- all of the claimed leaf is gathered
+-- the whole of the claimed leaf is gathered
 pub record IsGathered (v : View) : Type 0 where
   pub leaf : List ℕ
   pub leaf_is : v.leaf ≡ Some leaf
@@ -152,7 +158,8 @@ pub record Uncopies (old new : View) (page : ℕ) (result : Put) : Type 0 where
   pub page_is : new.page ≡ page
   pub answer : UncopyAnswer old new page result
 
--- The split of the claimed leaf entered the log, and the leaf is the last that is to be swept. The claim and the split are over.
+-- The split of the claimed leaf entered the log, and the leaf is the last that is to be swept, and not passed over any more. The claim and the
+-- split are over.
 pub record EntersSplit (old new : View) (at_end : Position) : Type 0 where
   pub before : List LogEvent
   pub grows : Grows old.seen before
@@ -163,6 +170,7 @@ pub record EntersSplit (old new : View) (at_end : Position) : Type 0 where
   pub over : new.splitting ≡ false
   pub earlier : List (List ℕ)
   pub retired : new.retired ≡ earlier ++ prefix_or old.leaf ∷ []
+  pub unpassed : new.passed (prefix_or old.leaf) ≡ false
 
 abbrev pub PublishAnswer : View → View → Result Position NoMemory → Type 0
 PublishAnswer old new (Ok position) = EntersSplit old new position
@@ -203,7 +211,7 @@ pub record GivesUp (old new : View) (pages : Bool) : Type 0 where
   pub tries : SameTry old new
   pub passes_over : IsTrue pages → IsTrue (new.passed (prefix_or old.leaf))
 
--- the page is swept; where no page is named, the sweep is over
+-- the sweep goes on from the page that is named; where none is, it is over
 abbrev pub SweptTo : View → View → Option ℕ → Type 0
 SweptTo old new None = new.sweep ≡ None
 SweptTo old new (Some p) = (new.sweep ≡ old.sweep) × (new.swept ≡ new.low p)

@@ -1,10 +1,11 @@
 -- What a World means: the view of its actor, and what sections leave as it was.
-use Rattle.std.specs.Prelude.{◌≡◌, ◌≢◌, ◌≤◌, ◌⊎◌, ◌++◌, ◌%◌, [], ℕ, List, Option, Some, None, Bool, true, false, IsTrue, length}
+use Rattle.std.specs.Prelude.{◌≡◌, ◌≢◌, ◌≤◌, ◌⊎◌, ◌%◌, [], ℕ, List, Option, Some, None, Bool, true, false, IsTrue, length}
 use Rattle.mi_base.specs.declared.records.LogEvent.{LogEvent}
 use Rattle.mi_base.specs.declared.records.Position.{Position}
 use Rattle.mi_base.specs.Configuration.{Configuration, IsWithinLimits, space_of}
 use Rattle.mi_base.specs.History.{Entered, end_of, events_at, updates_of, is_live}
 use Rattle.mi_base.specs.Permutations.{distances}
+use Rattle.mi_tree.specs.Growing.{Grows}
 use Rattle.mi_tree.specs.Legal.{LegalLog}
 use Rattle.mi_world.specs.declared.answers.Record.{Record}
 use Rattle.mi_world.specs.Births.{Born, living, were_split_in_order}
@@ -76,11 +77,6 @@ pub record View : Type 0 where
   -- the note of the shard that was tried last: its number, and who held it then
   pub tried : ℕ
   pub found : Option ℕ
-
--- the log went on
-pub record Grows (old new : List LogEvent) : Type 0 where
-  pub by : List LogEvent
-  pub is : new ≡ old ++ by
 
 -- What any section of anyone leaves: the settings and the actor are the same, and what was learned stays true.
 pub record Later (old new : View) : Type 0 where
@@ -203,11 +199,8 @@ pub record SeesBoard (new : View) : Type 0 where
   pub retired : IsTrue (were_split_in_order new.retired new.seen)
   pub first : NamesFirstPage new
 
--- no section of the board: what was known of it stays
-pub record SameBoard (old new : View) : Type 0 where
-  pub seen : new.seen ≡ old.seen
-  pub lacked : new.lacked ≡ old.lacked
-  pub told : new.told ≡ old.told
+-- the note of the board
+pub record SameNote (old new : View) : Type 0 where
   pub allotted : new.allotted ≡ old.allotted
   pub holder : new.holder ≡ old.holder
   pub pins : new.pins ≡ old.pins
@@ -215,6 +208,13 @@ pub record SameBoard (old new : View) : Type 0 where
   pub passed : new.passed ≡ old.passed
   pub root : new.root ≡ old.root
   pub height : new.height ≡ old.height
+
+-- no section of the board: what was known of it stays
+pub record SameBoard (old new : View) : Type 0 where
+  pub seen : new.seen ≡ old.seen
+  pub lacked : new.lacked ≡ old.lacked
+  pub told : new.told ≡ old.told
+  pub note : SameNote old new
 
 -- no section of a page
 pub record SamePage (old new : View) : Type 0 where
