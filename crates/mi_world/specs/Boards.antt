@@ -11,9 +11,10 @@ use Rattle.mi_tree.specs.declared.answers.ReserveRefusal.TheVariants as reserve
 use Rattle.mi_tree.specs.declared.answers.Work.{Work}
 use Rattle.mi_tree.specs.declared.answers.Work.TheVariants as work
 use Rattle.mi_tree.specs.declared.outcomes.Leaf.{Leaf}
+use Rattle.mi_tree.specs.Births.{was_split}
 use Rattle.mi_tree.specs.Counting.{is_wanted}
 use Rattle.mi_tree.specs.Legal.{cells_of}
-use Rattle.mi_world.specs.Births.{was_split, were_split_in_order}
+use Rattle.mi_world.specs.Retired.{were_split_in_order}
 use Rattle.mi_world.specs.Shown.{least_key}
 use Rattle.mi_world.specs.View.{View, Later, SameOwn, SameUpdate, SameLeaf, SameSweep, SameSplit, SameFlags, SameActors, SamePage, SameTry, SeesBoard, SameWork, SameApart, IsFloor}
 

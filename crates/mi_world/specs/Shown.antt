@@ -4,6 +4,7 @@ use Rattle.std.specs.declared.cmp.Ordering.{Ordering}
 use Rattle.std.specs.List.{filter}
 use Rattle.std.specs.Ordering.{nat_cmp}
 use Rattle.mi_base.specs.declared.records.LogEvent.{LogEvent}
+use Rattle.mi_base.specs.declared.limits.TheConstants.{MAX_ID}
 use Rattle.mi_base.specs.Configuration.{Configuration, space_of}
 use Rattle.mi_base.specs.History.{updates_of}
 use Rattle.mi_base.specs.Permutations.{distances}
@@ -13,8 +14,8 @@ use Rattle.mi_key.specs.Clusters.{cluster_of}
 use Rattle.mi_key.specs.Entries.{Offering}
 use Rattle.mi_key.specs.Keys.{key_of}
 use Rattle.mi_key.specs.Ranges.{is_within}
+use Rattle.mi_tree.specs.Births.{Born, born, object_born}
 use Rattle.mi_tree.specs.Cells.{Grid, grid_of, leaf_of}
-use Rattle.mi_world.specs.Births.{Born, born}
 
 -- how the space of settings places vectors
 abbrev pub grid_under : Configuration → Grid
@@ -29,7 +30,7 @@ abbrev pub least_key : Configuration → List ℕ → ℕ
 least_key c prefix = key_under c prefix 0 0 0
 
 abbrev pub greatest_key : Configuration → List ℕ → ℕ
-greatest_key c prefix = key_under c prefix (2 ^ 27 - 1) (2 ^ 40 - 1) (2 ^ 30 - 1)
+greatest_key c prefix = key_under c prefix (2 ^ 27 - 1) MAX_ID (2 ^ 30 - 1)
 
 -- what is offered of an object, and the key that it stands under
 pub record Shown : Type 0 where
@@ -40,7 +41,7 @@ pub record Shown : Type 0 where
 abbrev pub shown_as : Configuration → List LogEvent → Born → Shown
 shown_as c log b = record {
   key = key_under c (leaf_of (grid_under c) log ((grid_under c).perm b.vector)) ((grid_under c).distance b.vector) b.id b.birth;
-  offering = record { object = record { id = b.id; vector = b.vector }; dists = distances (space_of c) b.vector };
+  offering = record { object = object_born b; dists = distances (space_of c) b.vector };
 }
 
 abbrev pub shown_cmp : Shown → Shown → Ordering

@@ -1,5 +1,6 @@
 -- Sections of a split and of a sweep.
 use Rattle.std.specs.Prelude.{◌≡◌, ◌≤◌, ◌<◌, ◌+◌, ◌-◌, ◌∷◌, ◌++◌, ◌||◌, [], ℕ, List, Option, Some, None, Bool, true, false, IsTrue, length, cond, not, slice_index, Result, Ok, Err}
+use Rattle.mi_base.specs.declared.limits.TheConstants.{MAX_UPDATES}
 use Rattle.mi_base.specs.declared.records.LogEvent.{LogEvent}
 use Rattle.mi_base.specs.declared.records.LogEvent.TheVariants.{Split}
 use Rattle.mi_base.specs.declared.records.Position.{Position}
@@ -59,7 +60,7 @@ pub record GathersPage (old new : View) (page : ℕ) (next : Option ℕ) : Type 
   pub marked : MarksOn new next
   pub more : List ℕ
   pub gathered : new.copies ≡ copies_in old ++ more
-  pub few : length new.copies ≤ 200000
+  pub few : length new.copies ≤ MAX_UPDATES
   pub copied : new.copied ≡ copied_in old
 
 abbrev pub GatherAnswer : View → View → ℕ → Result Visit NoMemory → Type 0

@@ -5,10 +5,11 @@ use Rattle.mi_base.specs.declared.records.Position.{Position}
 use Rattle.mi_base.specs.Configuration.{Configuration, IsWithinLimits, space_of}
 use Rattle.mi_base.specs.History.{Entered, end_of, events_at, updates_of, is_live}
 use Rattle.mi_base.specs.Permutations.{distances}
+use Rattle.mi_tree.specs.Births.{Born, living}
 use Rattle.mi_tree.specs.Growing.{Grows}
 use Rattle.mi_tree.specs.Legal.{LegalLog}
 use Rattle.mi_world.specs.declared.answers.Record.{Record}
-use Rattle.mi_world.specs.Births.{Born, living, were_split_in_order}
+use Rattle.mi_world.specs.Retired.{were_split_in_order}
 
 -- an actor that was absorbed, with its own updates
 pub record Absorbed : Type 0 where
