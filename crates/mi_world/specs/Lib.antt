@@ -1,6 +1,7 @@
 pub mod Boards
 pub mod Claims
 pub mod Families
+pub mod Lone
 pub mod Pages
 pub mod Retired
 pub mod Shown
