@@ -1,1 +1,2 @@
+pub mod RetiredLemmas
 pub mod ViewLemmas
