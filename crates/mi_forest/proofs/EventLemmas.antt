@@ -12,22 +12,16 @@ use Rattle.mi_page.specs.declared.routes.Route.{Route}
 use Rattle.mi_page.specs.Keys.{IsInside, is_below}
 use Rattle.mi_page.specs.Entries.{entry_cmp, has_entry, with_death, without_key}
 use Rattle.mi_page.specs.Routes.{route_cmp, has_route}
-use Rattle.mi_page.specs.Nodes.{Node, IsNode, item_count}
+use Rattle.mi_page.specs.Nodes.{Node, IsNode, item_count, in_range}
 use Rattle.mi_page.proofs.NodeLemmas.{insert_entry_keeps, insert_route_keeps, mark_keeps, filter_keeps_leaf}
-use Rattle.mi_tree.proofs.ListLemmas.{filter_same, all_weaker, all_any, flat_same}
-use Rattle.mi_forest.specs.Forests.{Forest, IsForest, IsLinked, LeadsDown, all_entries, in_range}
+use Rattle.mi_tree.proofs.ListLemmas.{all_put, filter_same, all_weaker, all_any, flat_same, all_from_map}
+use Rattle.mi_forest.specs.Forests.{Forest, IsForest, IsLinked, LeadsDown, all_entries}
 use Rattle.mi_forest.specs.Changes.{RewritesPage, SetsPage, with_entries, with_routes}
-use Rattle.mi_forest.proofs.ListLemmas.{ChangesAt, all_from_map, filtered, mapped, placed, inside_in}
+use Rattle.mi_forest.proofs.ListLemmas.{ChangesAt, filtered, mapped, placed, inside_in}
 use Rattle.mi_forest.proofs.MoveLemmas.{stands, level_in}
 use Rattle.mi_forest.proofs.NumberLemmas.{all_from_has}
 use Rattle.mi_forest.proofs.FlatLemmas.{changes_at}
 use Rattle.mi_forest.proofs.KeepLemmas.{rewrite_keeps}
-
-pub all_put : {X : Type 0} (P : X → Type 0) (cmp : X → X → Ordering) (x : X) (xs : List X) → P x → AllByRecursion P xs → AllByRecursion P (put cmp x xs)
-all_put P cmp x [] p h = (p, tt)
-all_put P cmp x (y ∷ ys) p h =
-    let Q : Bool → Type 0 = λ b. AllByRecursion P (cond b (y ∷ put cmp x ys) (x ∷ y ∷ ys)) in
-    elim (is_lt (cmp y x)) as Q [ true ↦ (h.0, all_put P cmp x ys p h.1) | false ↦ (p, h) ]
 
 pub length-put : {X : Type 0} (cmp : X → X → Ordering) (x : X) (xs : List X) → length (put cmp x xs) ≡ suc (length xs)
 length-put cmp x [] = refl
@@ -154,7 +148,7 @@ module _ (old new : Forest) (h : IsForest old) (n : ℕ) (linked : IsLinked old 
       page = subst IsNode (sym s.is) (insert_route_keeps (old.node n) r (put route_cmp r (old.node n).routes) page above few inside absent refl);
       frame = record { level = ap (λ (p : Node). p.level) s.is; low = ap (λ (p : Node). p.low) s.is; high = ap (λ (p : Node). p.high) s.is; right = ap (λ (p : Node). p.right) s.is };
       routes = subst (λ (p : Node). AllByRecursion (LeadsDown old (old.node n).level) p.routes) (sym s.is)
-          (all_put (LeadsDown old (old.node n).level) route_cmp r (old.node n).routes leads (h.routes n linked));
+          (all_put route_cmp (LeadsDown old (old.node n).level) r (old.node n).routes leads (h.routes n linked));
       more = (let same = ap (λ (p : Node). length p.routes) s.is in omega (arith, length-put route_cmp r (old.node n).routes));
       others = s.others;
       chains = s.chains;

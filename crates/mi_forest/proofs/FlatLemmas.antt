@@ -6,11 +6,11 @@ use Rattle.mi_base.specs.Prefixes.{has}
 use Rattle.mi_key.specs.declared.entries.Entry.{Entry}
 use Rattle.mi_page.specs.Keys.{Ascending, IsInside, is_below}
 use Rattle.mi_page.specs.Entries.{entry_keys}
-use Rattle.mi_page.specs.Nodes.{Node, IsNode}
-use Rattle.mi_tree.proofs.ListLemmas.{map-flat, flat_same, all_weaker}
-use Rattle.mi_forest.specs.Forests.{Forest, IsForest, IsLinked, all_entries, in_range}
+use Rattle.mi_page.specs.Nodes.{Node, IsNode, in_range}
+use Rattle.mi_tree.proofs.ListLemmas.{map-flat, flat_same, all_weaker, all_from_map}
+use Rattle.mi_forest.specs.Forests.{Forest, IsForest, IsLinked, all_entries}
 use Rattle.mi_forest.proofs.ChainLemmas.{Around, around, chain_ascends}
-use Rattle.mi_forest.proofs.ListLemmas.{ChangesAt, all_from_map, own_entries}
+use Rattle.mi_forest.proofs.ListLemmas.{ChangesAt, own_entries}
 use Rattle.mi_forest.proofs.MoveLemmas.{stands}
 
 abbrev entries_at : Forest → List ℕ → List Entry

@@ -1,6 +1,5 @@
 -- A list of entries around those of one page.
-use Rattle.std.proofs.Common.{take, drop, Some, ◌≡◌, ℕ, zero, suc, ◌<◌, List, [], ◌∷◌, ◌++◌, map, Bool, true, false, cond, not, ◌&&◌, ◌||◌, nat_lt, nat_le, refl, sym, ap, ◌∙◌, subst, arith, append-nil}
-use Rattle.std.specs.Prelude.{slice_get}
+use Rattle.std.proofs.Common.{drop, ◌≡◌, ℕ, zero, suc, ◌<◌, List, [], ◌∷◌, ◌++◌, map, Bool, true, false, cond, not, ◌&&◌, ◌||◌, nat_lt, nat_le, refl, sym, ap, ◌∙◌, arith, append-nil}
 use Rattle.std.specs.List.{AllByRecursion, filter}
 use Rattle.std.specs.Ordering.{nat_cmp, is_lt}
 use Rattle.std.proofs.lemmas.Bool.Decides.{nat_tests}
@@ -10,10 +9,9 @@ use Rattle.mi_base.specs.Sorting.{put}
 use Rattle.mi_key.specs.declared.entries.Entry.{Entry}
 use Rattle.mi_page.specs.Keys.{IsInside, is_below}
 use Rattle.mi_page.specs.Entries.{entry_cmp}
-use Rattle.mi_page.specs.Nodes.{Node}
+use Rattle.mi_page.specs.Nodes.{Node, in_range}
 use Rattle.mi_page.proofs.OrderLemmas.{is_lt-nat_cmp}
-use Rattle.mi_tree.proofs.ListLemmas.{filter_same, filter_none, all_weaker}
-use Rattle.mi_forest.specs.Forests.{in_range}
+use Rattle.mi_tree.proofs.ListLemmas.{filter_all, filter_same, filter_none, all_weaker}
 use Rattle.mi_forest.proofs.ChainLemmas.{below_less}
 
 -- the entries of one leaf page are others, and those around it are outside its range
@@ -25,34 +23,15 @@ pub record ChangesAt (p : Node) (entries : List Entry) (old new : List Entry) : 
   pub below : AllByRecursion (λ e. e.key < p.low) before
   pub above : AllByRecursion (λ e. is_below p.high e.key ≡ false) behind
 
-pub all_from_map : {X Y : Type 0} (f : X → Y) (P : Y → Type 0) (xs : List X) → AllByRecursion P (map f xs) → AllByRecursion (λ x. P (f x)) xs
-all_from_map f P [] h = tt
-all_from_map f P (x ∷ xs) h = (h.0, all_from_map f P xs h.1)
-
--- a fact of each element, of the one at a place
-pub all_get : {X : Type 0} (P : X → Type 0) (xs : List X) (i : ℕ) (x : X) → AllByRecursion P xs → slice_get xs i ≡ Some x → P x
-all_get P [] i x h e = absurd (cc)
-all_get P (y ∷ ys) zero x h e = let is : y ≡ x = cc in subst P is h.0
-all_get P (y ∷ ys) (suc i) x h e = all_get P ys i x h.1 e
-
 -- two facts of each element make a third
 pub all_two : {X : Type 0} (P Q R : X → Type 0) → ((x : X) → P x → Q x → R x) → (xs : List X) → AllByRecursion P xs → AllByRecursion Q xs → AllByRecursion R xs
 all_two P Q R f [] a b = tt
 all_two P Q R f (x ∷ xs) a b = (f x a.0 b.0, all_two P Q R f xs a.1 b.1)
 
-pub take_all_of : {X : Type 0} (P : X → Type 0) (n : ℕ) (xs : List X) → AllByRecursion P xs → AllByRecursion P (take n xs)
-take_all_of P zero xs h = tt
-take_all_of P (suc n) [] h = tt
-take_all_of P (suc n) (x ∷ xs) h = (h.0, take_all_of P n xs h.1)
-
 pub drop_all_of : {X : Type 0} (P : X → Type 0) (n : ℕ) (xs : List X) → AllByRecursion P xs → AllByRecursion P (drop n xs)
 drop_all_of P zero xs h = h
 drop_all_of P (suc n) [] h = tt
 drop_all_of P (suc n) (x ∷ xs) h = drop_all_of P n xs h.1
-
-filter_all : {X : Type 0} (p : X → Bool) (xs : List X) → AllByRecursion (λ x. p x ≡ true) xs → filter p xs ≡ xs
-filter_all p [] h = refl
-filter_all p (x ∷ xs) h = rw (h.0, filter_all p xs h.1) refl
 
 map_all : {X : Type 0} (g : X → X) (xs : List X) → AllByRecursion (λ x. g x ≡ x) xs → map g xs ≡ xs
 map_all g [] h = refl

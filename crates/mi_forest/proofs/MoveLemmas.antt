@@ -8,7 +8,7 @@ use Rattle.mi_page.specs.Routes.{IsChild}
 use Rattle.mi_page.specs.Nodes.{Node}
 use Rattle.mi_forest.specs.Forests.{Forest, IsForest, IsLinked, IsChain, Stands, LeadsDown, Follows, MovesRight, MovesDown}
 use Rattle.mi_forest.proofs.ChainLemmas.{in_front}
-use Rattle.mi_forest.proofs.ListLemmas.{all_get}
+use Rattle.mi_tree.proofs.ListLemmas.{all_get}
 
 -- a page and what stands to the right of it
 pub record Found (node : ℕ → Node) (level n : ℕ) (ns : List ℕ) : Type 0 where

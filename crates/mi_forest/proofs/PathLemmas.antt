@@ -11,7 +11,8 @@ use Rattle.mi_page.specs.Nodes.{Node}
 use Rattle.mi_forest.specs.Forests.{Forest, IsForest, IsLinked, IsChain, LeadsDown, MovesRight, MovesDown}
 use Rattle.mi_forest.specs.Paths.{children_of, IsRouted, IsComplete, IsOnWay, IsPath, Root, Child}
 use Rattle.mi_forest.proofs.ChainLemmas.{below_less, past_lows, all_has}
-use Rattle.mi_forest.proofs.ListLemmas.{all_from_map, all_get, all_two}
+use Rattle.mi_forest.proofs.ListLemmas.{all_two}
+use Rattle.mi_tree.proofs.ListLemmas.{all_from_map, all_get}
 use Rattle.mi_forest.proofs.MoveLemmas.{stands, move_right, move_down}
 use Rattle.mi_forest.proofs.NumberLemmas.{other, first_in}
 use Rattle.mi_forest.proofs.HandLemmas.{bool_cases}

@@ -7,7 +7,8 @@ use Rattle.mi_base.specs.Prefixes.{has}
 use Rattle.mi_page.specs.Nodes.{Node, IsNode, fresh_node}
 use Rattle.mi_forest.specs.Forests.{Forest, IsForest, IsLinked, IsChain, LeadsDown, head, occurrence, occurrences, all_entries}
 use Rattle.mi_forest.specs.Changes.{PagesStay, HalvesPage, put_after}
-use Rattle.mi_forest.proofs.ListLemmas.{take_all_of, drop_all_of}
+use Rattle.mi_forest.proofs.ListLemmas.{drop_all_of}
+use Rattle.mi_tree.proofs.ListLemmas.{all_take}
 use Rattle.mi_forest.proofs.MoveLemmas.{stands}
 use Rattle.mi_forest.proofs.HandLemmas.{bool_cases, hand_apart, hand_times, hand_once, linked_allotted}
 use Rattle.mi_forest.proofs.NumberLemmas.{one_same, one_other, first_in, all_from_has, has_two, next_after, has_after, has_new, has_back, times_after, after_none, after_long, after_some}
@@ -64,7 +65,7 @@ module _ (old new : Forest) (h : IsForest old) (n q : ℕ) (w : HalvesPage old n
         (subst (λ (p : Node). AllByRecursion (LeadsDown old p.level) p.routes) (sym w.upper) (drop_all_of (LeadsDown old (old.node n).level) 16 (old.node n).routes (h.routes n w.linked)))
     | inr o ↦ elim (cases_eq m n) [
       | inl e ↦ subst (λ (k : ℕ). AllByRecursion (LeadsDown old (new.node k).level) (new.node k).routes) (sym e)
-          (subst (λ (p : Node). AllByRecursion (LeadsDown old p.level) p.routes) (sym w.lower) (take_all_of (LeadsDown old (old.node n).level) 16 (old.node n).routes (h.routes n w.linked)))
+          (subst (λ (p : Node). AllByRecursion (LeadsDown old p.level) p.routes) (sym w.lower) (all_take (LeadsDown old (old.node n).level) 16 (old.node n).routes (h.routes n w.linked)))
       | inr k ↦ subst (λ (p : Node). AllByRecursion (LeadsDown old p.level) p.routes) (sym (w.others m k o)) (h.routes m (linked_back m o l))
     ]
   ]

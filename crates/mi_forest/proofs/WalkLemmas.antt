@@ -7,11 +7,11 @@ use Rattle.std.proofs.lemmas.List.Elements.{filter-append}
 use Rattle.mi_base.specs.Prefixes.{has}
 use Rattle.mi_key.specs.declared.entries.Entry.{Entry}
 use Rattle.mi_page.specs.Keys.{IsInside, is_below}
-use Rattle.mi_page.specs.Nodes.{Node}
-use Rattle.mi_tree.proofs.ListLemmas.{filter_same, filter_none, all_weaker}
-use Rattle.mi_forest.specs.Forests.{Forest, IsForest, IsLinked, IsChain, head, all_entries, in_range, PageOf}
+use Rattle.mi_page.specs.Nodes.{Node, in_range}
+use Rattle.mi_tree.proofs.ListLemmas.{filter_same, filter_none, all_weaker, all_from_map}
+use Rattle.mi_forest.specs.Forests.{Forest, IsForest, IsLinked, IsChain, head, all_entries, PageOf}
 use Rattle.mi_forest.proofs.ChainLemmas.{below_less}
-use Rattle.mi_forest.proofs.ListLemmas.{ChangesAt, all_from_map}
+use Rattle.mi_forest.proofs.ListLemmas.{ChangesAt}
 use Rattle.mi_forest.proofs.MoveLemmas.{Found, stands, linked_in, first_has}
 use Rattle.mi_forest.proofs.FlatLemmas.{changes_at}
 use Rattle.mi_forest.proofs.PathLemmas.{below_down}

@@ -80,10 +80,6 @@ first_forest = record { node = λ n. fresh_node; chain = first_chain; root = 0; 
 abbrev pub all_entries : Forest → List Entry
 all_entries f = flat_map (λ n. (f.node n).entries) (f.chain 0)
 
--- the key lies in the range of a page
-abbrev pub in_range : Node → ℕ → Bool
-in_range p key = nat_le p.low key && is_below p.high key
-
 -- a page is the right sibling of another
 pub record Follows (f : Forest) (n m : ℕ) : Type 0 where
   pub linked : IsLinked f m

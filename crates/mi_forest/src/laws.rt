@@ -7,10 +7,10 @@ ghost use Rattle.mi_key.specs.declared.entries.Entry.{Entry};
 ghost use Rattle.mi_page.specs.declared.routes.Route.{Route};
 ghost use Rattle.mi_page.specs.Entries.{entry_cmp, entry_keys, has_entry, has_living, with_death, without_key};
 ghost use Rattle.mi_page.specs.Keys.{Ascending, IsInside, is_below};
-ghost use Rattle.mi_page.specs.Nodes.{Node, IsNode, item_count};
+ghost use Rattle.mi_page.specs.Nodes.{Node, IsNode, item_count, in_range};
 ghost use Rattle.mi_page.specs.Routes.{IsChild, has_route, route_cmp};
 ghost use Rattle.mi_forest.specs.Changes.{AllotsPage, PagesStay, GrowsRoot, HalvesPage, RewritesPage, SetsPage, with_entries, with_routes};
-ghost use Rattle.mi_forest.specs.Forests.{Follows, Forest, IsForest, IsLinked, LeadsDown, MovesDown, MovesRight, PageOf, first_forest, all_entries, in_range};
+ghost use Rattle.mi_forest.specs.Forests.{Follows, Forest, IsForest, IsLinked, LeadsDown, MovesDown, MovesRight, PageOf, first_forest, all_entries};
 ghost use Rattle.mi_forest.specs.Paths.{IsComplete, IsOnWay, IsPath};
 
 /// The entries of all leaf pages stand in key order, no key twice, and a leaf page has those of its range.

@@ -1,8 +1,8 @@
 -- A page as its callers see it (after Lehman and Yao, 1981).
-use Rattle.std.specs.Prelude.{◌≡◌, ◌<◌, ◌+◌, ℕ, List, [], ◌∷◌, ◌++◌, length, take, drop, Option, Some, None, slice_get, slice_index}
+use Rattle.std.specs.Prelude.{◌≡◌, ◌<◌, ◌+◌, ◌&&◌, ℕ, Bool, List, [], ◌∷◌, ◌++◌, length, nat_le, take, drop, Option, Some, None, slice_get, slice_index}
 use Rattle.mi_key.specs.declared.entries.Entry.{Entry}
 use Rattle.mi_page.specs.declared.routes.Route.{Route}
-use Rattle.mi_page.specs.Keys.{AreOrdered}
+use Rattle.mi_page.specs.Keys.{AreOrdered, is_below}
 use Rattle.mi_page.specs.Entries.{entry_keys}
 use Rattle.mi_page.specs.Routes.{route_keys}
 
@@ -23,6 +23,10 @@ item_count p = length p.entries + length p.routes
 -- the keys of the entries or routes
 abbrev pub keys_in : Node → List ℕ
 keys_in p = entry_keys p.entries ++ route_keys p.routes
+
+-- the key lies in the range of a page
+abbrev pub in_range : Node → ℕ → Bool
+in_range p key = nat_le p.low key && is_below p.high key
 
 -- what holds of every page: entries and routes in key order, at most 32, inside the range; entries at level 0 alone and routes
 -- above it alone; the first route has the low key

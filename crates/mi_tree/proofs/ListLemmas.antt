@@ -1,9 +1,14 @@
 -- Filters, maps and facts of each element.
-use Rattle.std.proofs.Common.{◌≡◌, List, [], ◌∷◌, ◌++◌, map, Bool, true, false, cond, ◌&&◌, refl, sym, ap, ◌∙◌, subst}
+use Rattle.std.proofs.Common.{◌≡◌, ℕ, zero, suc, List, [], ◌∷◌, ◌++◌, map, take, Some, Bool, true, false, cond, ◌&&◌, refl, sym, ap, ◌∙◌, subst}
+use Rattle.std.specs.Prelude.{slice_get}
+use Rattle.std.specs.declared.cmp.Ordering.{Ordering}
 use Rattle.std.specs.List.{AllByRecursion, filter, flat_map, list_all}
+use Rattle.std.specs.Ordering.{is_lt}
 use Rattle.std.proofs.lemmas.Bool.{and_parts}
 use Rattle.std.proofs.lemmas.List.{map-append}
 use Rattle.std.proofs.lemmas.List.Elements.{filter-append}
+use Rattle.std.proofs.lemmas.Option.{none-some, same_Some}
+use Rattle.mi_base.specs.Sorting.{put}
 
 module _ {X : Type 0} where
   -- tests that agree on each element
@@ -96,3 +101,28 @@ all_from_test t (x ∷ xs) h = let parts = and_parts (t x) (list_all t xs) h in 
 pub test_from_all : {X : Type 0} (t : X → Bool) (xs : List X) → AllByRecursion (λ x. t x ≡ true) xs → list_all t xs ≡ true
 test_from_all t [] h = refl
 test_from_all t (x ∷ xs) h = rw (h.0, test_from_all t xs h.1) refl
+
+pub filter_all : {X : Type 0} (p : X → Bool) (xs : List X) → AllByRecursion (λ x. p x ≡ true) xs → filter p xs ≡ xs
+filter_all p [] h = refl
+filter_all p (x ∷ xs) h = rw (h.0, filter_all p xs h.1) refl
+
+-- a fact of each element, of the one at a place
+pub all_get : {X : Type 0} (P : X → Type 0) (xs : List X) (i : ℕ) (x : X) → AllByRecursion P xs → slice_get xs i ≡ Some x → P x
+all_get P [] i x h e = absurd (none-some x e)
+all_get P (y ∷ ys) zero x h e = subst P (same_Some y x e) h.0
+all_get P (y ∷ ys) (suc i) x h e = all_get P ys i x h.1 e
+
+pub all_take : {X : Type 0} (P : X → Type 0) (k : ℕ) (xs : List X) → AllByRecursion P xs → AllByRecursion P (take k xs)
+all_take P zero xs h = tt
+all_take P (suc k) [] h = tt
+all_take P (suc k) (x ∷ xs) h = (h.0, all_take P k xs h.1)
+
+pub all_put : {X : Type 0} (cmp : X → X → Ordering) (P : X → Type 0) (x : X) (xs : List X) → P x → AllByRecursion P xs → AllByRecursion P (put cmp x xs)
+all_put cmp P x [] p h = (p, tt)
+all_put cmp P x (y ∷ ys) p h =
+    let Q : Bool → Type 0 = λ b. AllByRecursion P (cond b (y ∷ put cmp x ys) (x ∷ y ∷ ys)) in
+    elim (is_lt (cmp y x)) as Q [ true ↦ (h.0, all_put cmp P x ys p h.1) | false ↦ (p, h) ]
+
+pub all_from_map : {X Y : Type 0} (f : X → Y) (P : Y → Type 0) (xs : List X) → AllByRecursion P (map f xs) → AllByRecursion (λ x. P (f x)) xs
+all_from_map f P [] h = tt
+all_from_map f P (x ∷ xs) h = (h.0, all_from_map f P xs h.1)

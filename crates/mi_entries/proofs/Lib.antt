@@ -1,0 +1,16 @@
+pub mod Tools
+pub mod DepthLemmas
+pub mod KeyedLemmas
+pub mod ShowLemmas
+pub mod EntryLemmas
+pub mod PublishLemmas
+pub mod ChildLemmas
+pub mod ContentLemmas
+pub mod RecordLemmas
+pub mod LivingLemmas
+pub mod RetiredLemmas
+pub mod DeleteLemmas
+pub mod MemberLemmas
+pub mod AbsentLemmas
+pub mod GatherLemmas
+pub mod NewLemmas
