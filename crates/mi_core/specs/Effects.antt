@@ -1,0 +1,75 @@
+-- What events do to a board, a page, a shard and a record: functions of these alone.
+use Rattle.std.specs.Prelude.{ℕ, ◌==◌, List, [], ◌∷◌, ◌++◌, Bool, false, not, cond, length, map}
+use Rattle.std.specs.List.{filter}
+use Rattle.mi_base.specs.declared.records.LogEvent.TheVariants.{Update as Made}
+use Rattle.mi_base.specs.declared.records.Update.{Update}
+use Rattle.mi_base.specs.Sorting.{put}
+use Rattle.mi_key.specs.declared.entries.Entry.{Entry}
+use Rattle.mi_key.specs.declared.ranges.Interval.{Interval}
+use Rattle.mi_page.specs.Entries.{entry_cmp, without_interval, without_dead, with_death, without_key}
+use Rattle.mi_page.specs.Nodes.{Node}
+use Rattle.mi_page.specs.Routes.{has_route, route_cmp}
+use Rattle.mi_core.specs.Boards.{BoardState, floor_of, with_event, with_reserved}
+use Rattle.mi_entries.specs.Actors.{Actor, Owed}
+
+-- boards
+
+-- an update is entered, which its actor had reserved
+abbrev pub with_update : ℕ → ℕ → Update → BoardState → BoardState
+with_update a op u b = with_event (Made a op u) (with_reserved false) a b
+
+-- pages
+
+abbrev pub with_entries : List Entry → Node → Node
+with_entries entries n = record n { entries = entries }
+
+abbrev pub trim_node : ℕ → Node → Node
+trim_node floor n = with_entries (without_dead floor n.entries) n
+
+-- after a trim, since it may need the room
+abbrev pub put_entry : ℕ → Entry → Node → Node
+put_entry floor e n = with_entries (put entry_cmp e (without_dead floor n.entries)) n
+
+abbrev pub mark_entry : ℕ → ℕ → Node → Node
+mark_entry key number n = with_entries (map (with_death key number) n.entries) n
+
+abbrev pub drop_entry : ℕ → Node → Node
+drop_entry key n = with_entries (without_key key n.entries) n
+
+abbrev pub sweep_node : Interval → Node → Node
+sweep_node range n = with_entries (without_interval range n.entries) n
+
+-- where the route stands already, nothing changes
+abbrev pub post_route : ℕ → ℕ → Node → Node
+post_route key child n = cond (has_route key n.routes) n (record n { routes = put route_cmp (record { key = key; child = child }) n.routes })
+
+-- shards
+
+-- records
+
+-- who has made a board section has seen the whole log
+abbrev pub saw : BoardState → Actor → Actor
+saw b r = record r { seen = length b.log }
+
+abbrev pub looked : BoardState → Actor → Actor
+looked b r = record r { seen = length b.log; floor = floor_of b }
+
+abbrev pub noted : ℕ → Actor → Actor
+noted page r = record r { page = page }
+
+-- an update more; the board is the one after it
+abbrev pub committed : BoardState → ℕ → ℕ → Update → ℕ → Actor → Actor
+committed b a op u page r = record r {
+  seen = length b.log;
+  own = r.own ++ record { session = a; op = op; update = u } ∷ [];
+  reserved = false;
+  reserved_here = false;
+  page = page;
+}
+
+-- a page has one route, so its number tells the debt
+abbrev pub route_owed : ℕ → Owed → Bool
+route_owed child o = o.child == child
+
+abbrev pub paid : ℕ → List Owed → List Owed
+paid child owed = filter (λ o. not (route_owed child o)) owed

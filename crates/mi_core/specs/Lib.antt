@@ -1,0 +1,17 @@
+pub mod Boards
+pub mod State
+pub mod Pages
+pub mod Claims
+pub mod Actors
+pub mod Sound
+pub mod Noted
+pub mod Kept
+pub mod Effects
+pub mod Refusals
+pub mod Events
+pub mod Law
+pub mod Debts
+pub mod Later
+pub mod Counted
+pub mod Named
+pub mod Wanted
