@@ -1,7 +1,6 @@
 pub mod Boards
 pub mod Claims
 pub mod Families
-pub mod Lone
 pub mod Pages
 pub mod Retired
 pub mod Shown
