@@ -108,24 +108,6 @@ farther_out w before worst row e told far = farther_kth w.count row w.rows befor
 pub first_of_same : (count : ℕ) (xs ys : List Row) → SameElements xs ys → first_rows count xs ≡ first_rows count ys
 first_of_same count xs ys same = ap (take count) (sorted_of_same row_cmp row_total row_exact xs ys same)
 
--- nothing was offered
-pub takes_none : (m : MetricSpace) (query : List ℤ) (w : Nearing) (steps : ℕ) → TakesNearest m query w steps [] w steps
-takes_none m query w steps = record { same_dists = refl; same_count = refl; rows_are = λ before e. e ∙ ap (first_rows w.count) (sym (append-nil before)); ticks = omega arith }
-
--- more was offered
-pub takes_more : (m : MetricSpace) (query : List ℤ) (u v w : Nearing) (k l n : ℕ) (xs ys : List Offering) → TakesNearest m query u k xs v l → TakesNearest m query v l ys w n → TakesNearest m query u k (xs ++ ys) w n
-takes_more m query u v w k l n xs ys a b =
-    let row : Offering → Row = λ o. row_of m query o.object in
-    record {
-      same_dists = b.same_dists ∙ a.same_dists;
-      same_count = b.same_count ∙ a.same_count;
-      rows_are = λ before e.
-          b.rows_are (before ++ map row xs) (a.rows_are before e ∙ ap (λ c. first_rows c (before ++ map row xs)) (sym a.same_count))
-          ∙ ap (λ c. first_rows c ((before ++ map row xs) ++ map row ys)) a.same_count
-          ∙ ap (first_rows u.count) (append_assoc before (map row xs) (map row ys) ∙ ap (λ rows. before ++ rows) (sym (map-append row xs ys)));
-      ticks = omega (arith, a.ticks, b.ticks, length-append xs ys);
-    }
-
 -- an entry that the filter refuses is no row
 pub take_refused : (m : MetricSpace) → IsMetric m → (query : List ℤ) → IsTrue (m.fits query) → (w : Nearing) (steps : ℕ) (o : Offering) → IsTrue (m.fits o.object.vector)
     → Measured m query w.dists o.object.vector o.dists → may_be_near (worst_of w) w.dists o.dists ≡ false → TakesNearest m query w steps (o ∷ []) w steps

@@ -1,2 +1,3 @@
 pub mod Nearing
 pub mod Order
+pub mod Taking

@@ -3,10 +3,12 @@
 
 mod laws;
 mod order;
+mod sieve;
 mod work;
 
 pub use laws::{first_rows_stay, places_ascend, taking_goes_on};
 pub use order::{Rank, ranked};
+pub use sieve::NearestSieve;
 pub use work::NearestWork;
 
 #[cfg(test)]

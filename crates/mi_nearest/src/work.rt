@@ -19,14 +19,16 @@ use std::sync::ledger::Ledger;
 /// A query for the nearest objects as far as it knows no pages: the first rows of what it was offered.
 #[derive(Drop)]
 pub struct NearestWork {
-    query: Dists,
+    dists: Dists,
     count: u32,
     /// The last of the rows is the first to leave.
     rows: BinaryHeap<Row>,
+    /// How many rows more there is room for at least. A refused reservation may move the capacity, and never this.
+    spare: usize,
 }
 
 impl Model for NearestWork {
-    ghost use Rattle.std.specs.Prelude.{◌-◌, ◌≤◌, length};
+    ghost use Rattle.std.specs.Prelude.{◌+◌, ◌≤◌, length};
     ghost use Rattle.std.specs.BinaryHeap.{IsHeap, heap_capacity, heap_items, heap_len};
     ghost use Rattle.mi_base.specs.History.{row_cmp};
     ghost use Rattle.mi_base.specs.Sorting.{sorted};
@@ -34,9 +36,9 @@ impl Model for NearestWork {
 
     ghost Value = { Nearing };
 
-    ghost view = { λ w. record { dists = w.query.items; count = w.count; rows = sorted row_cmp (heap_items w.rows); spare = heap_capacity w.rows - heap_len w.rows } };
+    ghost view = { λ w. record { dists = w.dists.items; count = w.count; rows = sorted row_cmp (heap_items w.rows); spare = w.spare } };
 
-    ghost invariant = { λ w. IsHeap row_cmp (heap_items w.rows) × (length (heap_items w.rows) ≤ w.count) × (1 ≤ w.count) };
+    ghost invariant = { λ w. IsHeap row_cmp (heap_items w.rows) × (length (heap_items w.rows) ≤ w.count) × (1 ≤ w.count) × (heap_len w.rows + w.spare ≤ heap_capacity w.rows) };
 }
 
 impl NearestWork {
@@ -49,19 +51,21 @@ impl NearestWork {
         ensures rows { result.rows ≡ [] }
     {
         NearestWork {
-            query: Dists::try_from(query.as_slice()).unwrap(),
+            dists: Dists::try_from(query.as_slice()).unwrap(),
             count,
             rows: BinaryHeap::new(alloc),
+            spare: 0,
         }
     }
 
     /// Makes room for 32 rows.
     pub fn room(&mut self) -> Result<(), NoMemory>
         ensures ok { OnOk result (32 ≤ self.new.spare) }
-        ensures err { OnErr result (self.old.spare ≤ self.new.spare) }
+        ensures err { OnErr result (self.new ≡ self.old) }
         ensures same { self.new ≡ record self.old { spare = self.new.spare } }
     {
         self.rows.reserve(32)?;
+        self.spare = 32;
         Ok(())
     }
 
@@ -129,7 +133,7 @@ impl NearestWork {
     {
         match self.worst() {
             None => true,
-            Some(worst) => filter(&self.query, dists, worst),
+            Some(worst) => filter(&self.dists, dists, worst),
         }
     }
 
@@ -145,6 +149,7 @@ impl NearestWork {
             Ok(()) => {}
             Err(_) => unreachable!(),
         }
+        self.spare -= 1;
         if self.rows.len() > self.count as usize {
             self.rows.pop();
         }

@@ -16,8 +16,8 @@ use Rattle.mi_key.specs.declared.entries.Entry.{Entry}
 use Rattle.mi_key.specs.Entries.{Offering, object_of, offering_of}
 use Rattle.mi_key.specs.Keys.{parts_of}
 use Rattle.mi_range.specs.Ranging.{Ranging, TakesRange, compared_count}
-use Rattle.mi_range.proofs.TakeLemmas.{takes_more}
-use Rattle.mi_rules.specs.Answers.{Measured}
+use Rattle.mi_range.specs.Taking.{takes_more}
+use Rattle.mi_rules.specs.Answers.{Comparable}
 use Rattle.mi_key.specs.declared.ranges.Interval.{Interval}
 use Rattle.mi_key.specs.Ranges.{is_within}
 use Rattle.std.proofs.lemmas.List.{map-append, take_all}
@@ -27,7 +27,7 @@ use Rattle.mi_tree.specs.declared.outcomes.Leaf.{Leaf}
 use Rattle.mi_tree.specs.Legal.{LegalLog, cells_of}
 use Rattle.mi_rules.specs.Passing.{lets_through, passes}
 use Rattle.mi_tree.proofs.ListLemmas.{all_any, all_weaker, filter_same}
-use Rattle.mi_plain.specs.Opening.{AreMeasured, offerings, entries_in_span}
+use Rattle.mi_plain.specs.Opening.{AreComparable, offerings, entries_in_span}
 use Rattle.mi_plain.specs.Plain.{IsKept, object_in}
 use Rattle.mi_plain.proofs.RangeLemmas.{compared_few, few_entries, offered_hits}
 use Rattle.mi_plain.proofs.SpanLemmas.{Covered, all_covered, is_read, one_read}
@@ -217,9 +217,9 @@ pub measured_by : (c : Configuration) (m : MetricSpace) (pivots : List (List ℤ
 measured_by c m pivots query dq measured m_is pivots_are =
     measured ∙ ap (λ (x : MetricSpace). distances (record { metric = x; pivots = pivots }) query) m_is ∙ ap (λ (ps : List (List ℤ)). distances (record { metric = metric_space c; pivots = ps }) query) pivots_are
 
--- the entries' distances are measured as the query's are
-pub are_measured : (c : Configuration) → IsWithinLimits c → (log : List LogEvent) (query : List ℤ) (dq : List ℕ) → dq ≡ distances (space_of c) query → (es : List (ℕ × Entry))
-    → AllByRecursion (λ e. IsKept c log e.0 e.1) es → AreMeasured (metric_space c) query dq es
-are_measured c limits log query dq dq_is es kept =
-    all_weaker (λ (e : ℕ × Entry). IsKept c log e.0 e.1) (λ (e : ℕ × Entry). IsTrue ((metric_space c).fits e.1.vector) × Measured (metric_space c) query dq e.1.vector e.1.dists.items)
-    (λ e is. (is.fits, record { pivots = c.pivots; pivots_fit = limits.pivots; of_query = dq_is; of_object = is.dists_are })) es kept
+-- the query may be compared with each entry's object
+pub are_comparable : (c : Configuration) → IsWithinLimits c → (log : List LogEvent) (query : List ℤ) → IsTrue ((metric_space c).fits query) → (dq : List ℕ) → dq ≡ distances (space_of c) query → (es : List (ℕ × Entry))
+    → AllByRecursion (λ e. IsKept c log e.0 e.1) es → AreComparable (metric_space c) query dq es
+are_comparable c limits log query fits dq dq_is es kept =
+    all_weaker (λ (e : ℕ × Entry). IsKept c log e.0 e.1) (λ (e : ℕ × Entry). Comparable (metric_space c) query dq e.1.vector e.1.dists.items)
+    (λ e is. record { query_fits = fits; object_fits = is.fits; measured = record { pivots = c.pivots; pivots_fit = limits.pivots; of_query = dq_is; of_object = is.dists_are } }) es kept

@@ -1,16 +1,17 @@
 //! Entries under the keys of their leaves.
-ghost use Rattle.std.specs.Prelude.{◌≡◌, ◌≤◌, IsTrue, OnOk};
-ghost use Rattle.mi_plain.specs.Opening.{AreMeasured, offerings, entries_in_span};
+ghost use Rattle.std.specs.Prelude.{◌≡◌, ◌≤◌, OnOk};
+ghost use Rattle.std.specs.List.{AllByRecursion};
+ghost use Rattle.mi_plain.specs.Opening.{AreComparable, offerings, entries_in_span};
 ghost use Rattle.mi_plain.specs.Plain.{child_entry};
 ghost use Rattle.mi_nearest.specs.Nearing.{TakesNearest};
 ghost use Rattle.mi_range.specs.Ranging.{TakesRange};
 
 use mi_base::{Id, NoMemory, Prefix, Steps, Vector};
-use mi_key::{Entry, Interval, Key, cluster_number};
+use mi_key::{Entry, Interval, Key, Sieve, cluster_number};
 use mi_metric::Metric;
-use mi_nearest::NearestWork;
+use mi_nearest::{NearestSieve, NearestWork};
 use mi_perm::permutation;
-use mi_range::RangeWork;
+use mi_range::{RangeSieve, RangeWork};
 use std::collections::BTreeMap;
 use std::sync::ledger::Ledger;
 
@@ -30,6 +31,24 @@ pub fn rekey(entry: &mut Entry, split: &Prefix, levels: u32)
     entry.key = Key::make(cluster, parts.distance, parts.id, parts.birth);
 }
 
+/// Offers a sieve the entries whose keys the span has.
+fn offer_in<S: Sieve>(
+    entries: &BTreeMap<Id, Entry>,
+    span: &Interval,
+    sieve: &mut S,
+) -> Result<(), NoMemory>
+    requires taken { AllByRecursion (λ e. S.takes sieve.old e.1) entries.now.entries }
+    ensures { OnOk result (S.offered sieve.old (offerings (entries_in_span span.now entries.now.entries)) sieve.new) }
+{
+    for (_, entry) in entries.iter() {
+        if span.has(&entry.key) {
+            sieve.room()?;
+            sieve.offer(entry);
+        }
+    }
+    Ok(())
+}
+
 /// Offers a range query the entries whose keys the span has.
 pub fn offer_span<M: Metric, L: Ledger>(
     entries: &BTreeMap<Id, Entry>,
@@ -39,17 +58,16 @@ pub fn offer_span<M: Metric, L: Ledger>(
     query: &Vector,
     steps: &mut Steps<L>,
 ) -> Result<(), NoMemory>
-    requires query { IsTrue ((M.space metric.now).fits query.now) }
-    requires measured { AreMeasured (M.space metric.now) query.now work.old.dists entries.now.entries }
+    requires { AreComparable (M.space metric.now) query.now work.old.dists entries.now.entries }
     ensures { OnOk result (TakesRange (M.space metric.now) query.now work.old steps.old (offerings (entries_in_span span.now entries.now.entries)) work.new steps.new) }
 {
-    for (_, entry) in entries.iter() {
-        if span.has(&entry.key) {
-            work.room()?;
-            work.take(entry, metric, query, steps);
-        }
-    }
-    Ok(())
+    let mut sieve = RangeSieve {
+        work,
+        metric,
+        query,
+        steps,
+    };
+    offer_in(entries, span, &mut sieve)
 }
 
 /// Offers a query for the nearest the entries whose keys the span has.
@@ -61,15 +79,14 @@ pub fn offer_nearest<M: Metric, L: Ledger>(
     query: &Vector,
     steps: &mut Steps<L>,
 ) -> Result<(), NoMemory>
-    requires query { IsTrue ((M.space metric.now).fits query.now) }
-    requires measured { AreMeasured (M.space metric.now) query.now work.old.dists entries.now.entries }
+    requires { AreComparable (M.space metric.now) query.now work.old.dists entries.now.entries }
     ensures { OnOk result (TakesNearest (M.space metric.now) query.now work.old steps.old (offerings (entries_in_span span.now entries.now.entries)) work.new steps.new) }
 {
-    for (_, entry) in entries.iter() {
-        if span.has(&entry.key) {
-            work.room()?;
-            work.take(entry, metric, query, steps);
-        }
-    }
-    Ok(())
+    let mut sieve = NearestSieve {
+        work,
+        metric,
+        query,
+        steps,
+    };
+    offer_in(entries, span, &mut sieve)
 }

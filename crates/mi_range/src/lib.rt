@@ -2,9 +2,11 @@
 #![tactic(auto)]
 
 mod laws;
+mod sieve;
 mod work;
 
 pub use laws::{far_objects_are_no_rows, taking_goes_on};
+pub use sieve::RangeSieve;
 pub use work::RangeWork;
 
 #[cfg(test)]

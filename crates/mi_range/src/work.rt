@@ -18,7 +18,7 @@ use std::sync::ledger::Ledger;
 /// A range query as far as it knows no pages: the rows within the radius, and how many distances were computed.
 #[derive(Drop)]
 pub struct RangeWork {
-    query: Dists,
+    dists: Dists,
     radius: u32,
     rows: Vec<Row>,
     distances: u64,
@@ -30,7 +30,7 @@ impl Model for RangeWork {
 
     ghost Value = { Ranging };
 
-    ghost view = { λ w. record { dists = w.query.items; radius = w.radius; rows = w.rows.items; distances = w.distances; spare = vec_capacity w.rows - vec_len w.rows } };
+    ghost view = { λ w. record { dists = w.dists.items; radius = w.radius; rows = w.rows.items; distances = w.distances; spare = vec_capacity w.rows - vec_len w.rows } };
 }
 
 impl RangeWork {
@@ -43,7 +43,7 @@ impl RangeWork {
         ensures distances { result.distances ≡ array_vec_len query.now }
     {
         RangeWork {
-            query: Dists::try_from(query.as_slice()).unwrap(),
+            dists: Dists::try_from(query.as_slice()).unwrap(),
             radius,
             rows: Vec::new(alloc),
             distances: query.len() as u64,
@@ -75,7 +75,7 @@ impl RangeWork {
         ensures taken { TakesRange (M.space metric.now) query.now self.old steps.old (offering_of entry.now ∷ []) self.new steps.new }
         ensures spare { self.old.spare ≤ self.new.spare + 1 }
     {
-        if !filter(&self.query, &entry.dists, self.radius) {
+        if !filter(&self.dists, &entry.dists, self.radius) {
             return;
         }
         self.distances = self.distances.saturating_add(1);

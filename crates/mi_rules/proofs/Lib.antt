@@ -1,3 +1,4 @@
+pub mod AnswerLemmas
 pub mod BoundLemmas
 pub mod CandidateLemmas
 pub mod RuleLemmas

@@ -25,3 +25,9 @@ pub record Measured (m : MetricSpace) (query : List ℤ) (dq : List ℕ) (object
   pub pivots_fit : AllByRecursion (λ p. IsTrue (m.fits p)) pivots
   pub of_query : dq ≡ distances (record { metric = m; pivots = pivots }) query
   pub of_object : dists ≡ distances (record { metric = m; pivots = pivots }) object
+
+-- a query may be compared with an object: the metric is for both, and their distances to the pivots are measured alike
+pub record Comparable (m : MetricSpace) (query : List ℤ) (dq : List ℕ) (object : List ℤ) (dists : List ℕ) : Type 0 where
+  pub query_fits : IsTrue (m.fits query)
+  pub object_fits : IsTrue (m.fits object)
+  pub measured : Measured m query dq object dists

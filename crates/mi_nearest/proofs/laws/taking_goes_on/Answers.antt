@@ -1,4 +1,4 @@
-use Rattle.mi_nearest.proofs.FirstLemmas.{takes_none, takes_more}
+use Rattle.mi_nearest.specs.Taking.{takes_none, takes_more}
 use Rattle.mi_nearest.proofs.laws.taking_goes_on.Goals as goal
 
 pub returns-clause-none : goal.returns-clause-none

@@ -26,11 +26,11 @@ use Rattle.mi_tree.specs.Legal.{cells_of}
 use Rattle.mi_rules.specs.Passing.{kth_distance, reached_objects}
 use Rattle.mi_plain.specs.Answering.{Answers}
 use Rattle.mi_legal.specs.Work.{WorksNearest}
-use Rattle.mi_plain.specs.Opening.{AreMeasured, offerings, entries_in_span}
+use Rattle.mi_plain.specs.Opening.{AreComparable, offerings, entries_in_span}
 use Rattle.mi_plain.specs.Plain.{IsKept, object_in}
 use Rattle.mi_plain.proofs.NearestLemmas.{cells_below, goes_on, nearest_answered, ranked_here, stops_here, walk_step}
 use Rattle.mi_plain.proofs.OpenedLemmas.{few_cells, leaf_fits}
-use Rattle.mi_plain.proofs.OpeningLemmas.{are_measured, measured_by}
+use Rattle.mi_plain.proofs.OpeningLemmas.{are_comparable, measured_by}
 use Rattle.mi_plain.proofs.plain.Plain.nearest.Given.{Over}
 use Rattle.mi_plain.proofs.plain.Plain.nearest.Goals as goal
 use Rattle.mi_plain.proofs.plain.Plain.nearest.Goals.{else-loop-rank-test, then-loop-rank-test+then-stops_at}
@@ -100,8 +100,8 @@ near_span-requires-clause-depth g c =
     let levels : c.settings.inside.levels ≡ s.settings.levels = ap (λ (x : Configuration). x.levels) (c.settings.view_is ∙ c.settings-settings.ensures) ∙ ap (λ (x : BoardState). x.settings.levels) c.self.view_is in
     subst (λ (n : ℕ). length leaf.prefix ≤ n) (sym levels) fits.0
 
-pub offer_nearest-requires-clause-measured : goal.offer_nearest-requires-clause-measured
-offer_nearest-requires-clause-measured g c =
+pub offer_nearest-requires : goal.offer_nearest-requires
+offer_nearest-requires g c =
     let s = c.args.self.now in
     let k = s.settings in
     let es = c.self.inside.entries.entries in
@@ -110,7 +110,7 @@ offer_nearest-requires-clause-measured g c =
     let pivots : c.self.inside.pivots ≡ k.pivots = c.self.invariant.pivots_are ∙ ap (λ (x : BoardState). x.settings.pivots) c.self.view_is in
     let dq : c.loop-rank.work.dists ≡ distances (space_of k) query =
     c.loop-rank.invariant.same_dists ∙ c.new-work.ensures.dists ∙ measured_by k _ c.self.inside.pivots query c.measure-dists.result.items c.measure-dists.ensures.distances c.requires.space pivots in
-    subst (λ (m : MetricSpace). AreMeasured m query c.loop-rank.work.dists es) (sym c.requires.space) (are_measured k c.end-at.ensures.limits s.log query c.loop-rank.work.dists dq es kept)
+    subst (λ (m : MetricSpace). AreComparable m query c.loop-rank.work.dists es) (sym c.requires.space) (are_comparable k c.end-at.ensures.limits s.log query c.requires.fits c.loop-rank.work.dists dq es kept)
 
 pub loop-rank-preserved : goal.loop-rank-preserved
 loop-rank-preserved g c =

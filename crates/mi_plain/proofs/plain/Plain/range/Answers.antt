@@ -18,10 +18,10 @@ use Rattle.mi_tree.specs.Legal.{cells_of}
 use Rattle.mi_rules.specs.Passing.{opened_count, passes}
 use Rattle.mi_plain.specs.Answering.{Answers}
 use Rattle.mi_legal.specs.Work.{Works}
-use Rattle.mi_plain.specs.Opening.{AreMeasured}
+use Rattle.mi_plain.specs.Opening.{AreComparable}
 use Rattle.mi_plain.specs.Plain.{IsKept, object_in}
 use Rattle.mi_plain.proofs.OpenedLemmas.{counted_more, few_cells, leaf_fits}
-use Rattle.mi_plain.proofs.OpeningLemmas.{are_measured, measured_by, opened_passed, opened_taken, taken_all, taken_distances, taken_rows, taken_steps}
+use Rattle.mi_plain.proofs.OpeningLemmas.{are_comparable, measured_by, opened_passed, opened_taken, taken_all, taken_distances, taken_rows, taken_steps}
 use Rattle.mi_plain.proofs.RangeLemmas.{range_answered}
 use Rattle.mi_plain.proofs.plain.Plain.range.Given.{Over}
 use Rattle.mi_plain.proofs.plain.Plain.range.Goals as goal
@@ -63,8 +63,8 @@ span-span-requires-clause-depth g c =
     let levels : c.settings.inside.levels ≡ s.settings.levels = ap (λ (x : Configuration). x.levels) (c.settings.view_is ∙ c.settings-settings.ensures) ∙ ap (λ (x : BoardState). x.settings.levels) c.self.view_is in
     subst (λ (n : ℕ). length leaf.prefix ≤ n) (sym levels) fits.0
 
-pub offer_span-requires-clause-measured : goal.offer_span-requires-clause-measured
-offer_span-requires-clause-measured g c =
+pub offer_span-requires : goal.offer_span-requires
+offer_span-requires g c =
     let s = c.args.self.now in
     let k = s.settings in
     let es = c.self.inside.entries.entries in
@@ -73,7 +73,7 @@ offer_span-requires-clause-measured g c =
     let pivots : c.self.inside.pivots ≡ k.pivots = c.self.invariant.pivots_are ∙ ap (λ (x : BoardState). x.settings.pivots) c.self.view_is in
     let dq : c.loop-place.work.dists ≡ distances (space_of k) query =
     c.loop-place.invariant.takes.same_dists ∙ c.new-work.ensures.dists ∙ measured_by k _ c.self.inside.pivots query c.measure-dists.result.items c.measure-dists.ensures.distances c.requires.space pivots in
-    subst (λ (m : MetricSpace). AreMeasured m query c.loop-place.work.dists es) (sym c.requires.space) (are_measured k c.end-at.ensures.limits s.log query c.loop-place.work.dists dq es kept)
+    subst (λ (m : MetricSpace). AreComparable m query c.loop-place.work.dists es) (sym c.requires.space) (are_comparable k c.end-at.ensures.limits s.log query c.requires.fits c.loop-place.work.dists dq es kept)
 
 pub loop-place-preserved : goal.loop-place-preserved
 loop-place-preserved g c =
