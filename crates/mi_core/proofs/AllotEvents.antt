@@ -69,7 +69,6 @@ module _ (s : State) (k : Sound s) (a : ℕ) (r : Actor) (there : slice_get s.ac
         linked = p.linked;
         there = p.there;
         height = p.height;
-        low = p.low;
         length_is = p.length_is;
         most = omega arith;
         passed_over = λ y ys e. absurd (let n = p.passed_over y ys e in omega arith);

@@ -21,16 +21,14 @@ use Rattle.mi_entries.specs.Entries.{Shows, grid}
 use Rattle.mi_core.specs.Events.{copied_of}
 use Rattle.mi_forest.specs.Forests.{Forest, IsChain, all_entries}
 use Rattle.mi_core.specs.Sound.{Sound}
-use Rattle.mi_core.specs.Noted.{Noted}
 use Rattle.mi_core.specs.Pages.{forest_of, has_page, is_page, node_or_fresh}
 use Rattle.mi_core.specs.State.{count_if, State, node_at}
 use Rattle.mi_entries.specs.Actors.{Actor, SplitWork}
 use Rattle.mi_forest.proofs.ChainLemmas.{lows_rise}
 use Rattle.mi_core.proofs.CountEvents.{gathered_few, total_page}
 use Rattle.mi_forest.proofs.CountLemmas.{pages_bound}
-use Rattle.mi_core.proofs.DebtLemmas.{same_low}
 use Rattle.mi_entries.proofs.DepthLemmas.{IsKeyed, depth_deep, leaf_deep}
-use Rattle.mi_core.proofs.KeptLemmas.{floor_position, some_none}
+use Rattle.mi_core.proofs.KeptLemmas.{floor_position}
 use Rattle.mi_entries.proofs.KeyedLemmas.{is_keyed}
 use Rattle.mi_forest.proofs.MoveLemmas.{level_in}
 use Rattle.mi_forest.proofs.NumberLemmas.{all_from_has}
@@ -102,7 +100,7 @@ abbrev works_of : Grid → Option SplitWork → Object → Bool
 works_of g None o = false
 works_of g (Some w) o = belongs g w.leaf o
 
-module _ (s : State) (k : Sound s) (notes : Noted s) (lifted : Lifted s.board.settings s.board.log s.pages s.actors) (none : NoneUndone s.actors) where
+module _ (s : State) (k : Sound s) (lifted : Lifted s.board.settings s.board.log s.pages s.actors) (none : NoneUndone s.actors) where
   abbrev c : Configuration
   c = s.board.settings
 
@@ -124,21 +122,13 @@ module _ (s : State) (k : Sound s) (notes : Noted s) (lifted : Lifted s.board.se
   may : AllMaySplit g log
   may = all_may c log k.legal
 
-  first_in_chain : has 0 (k.chain 0) ≡ true
-  first_in_chain = subst (λ (l : ℕ). has 0 (k.chain l) ≡ true) (ap (λ (o : Option Node). (node_or_fresh o).level) notes.there ∙ notes.level) (k.pages.linked 0 notes.first notes.there)
-
   -- a linked leaf page is there
   leaf_there : (n : ℕ) → has n (k.chain 0) ≡ true → 16 ≤ page_lift (node_at s.pages n)
   leaf_there n t =
       let level : (f.node n).level ≡ 0 = level_in f.node 0 n (k.chain 0) (k.pages.forest.chains 0) t in
-      let P : Option Node → Type 0 = λ o. node_at s.pages n ≡ o → (node_or_fresh o).level ≡ 0 → 16 ≤ page_lift o in
-      (elim (node_at s.pages n) as P [
-        | None ↦ λ e l.
-            let low : (f.node n).low ≡ (f.node 0).low = ap (λ (o : Option Node). (node_or_fresh o).low) e ∙ sym (ap (λ (o : Option Node). (node_or_fresh o).low) notes.there ∙ notes.low) in
-            let same = same_low f.node 0 (k.chain 0) (k.pages.forest.chains 0) n 0 t first_in_chain low in
-            absurd (some_none notes.first (sym notes.there ∙ ap (node_at s.pages) (sym same) ∙ e))
-        | Some x ↦ λ e l. subst (λ (v : ℕ). 16 ≤ cond (v == 0) (max 16 (length x.entries)) 0) (sym l) (omega arith)
-      ]) refl level
+      let x = k.pages.there n (ap (λ l. has n (k.chain l)) level ∙ t) in
+      let leaf : x.0.level ≡ 0 = ap (λ (o : Option Node). (node_or_fresh o).level) (sym x.1) ∙ level in
+      subst (λ (o : Option Node). 16 ≤ page_lift o) (sym x.1) (subst (λ (v : ℕ). 16 ≤ cond (v == 0) (max 16 (length x.0.entries)) 0) (sym leaf) (omega arith))
 
   leaves_lift : 16 * length (k.chain 0) ≤ total page_lift s.pages
   leaves_lift = chain_lift f.node (k.chain 0) (k.pages.forest.chains 0) s.pages (all_from_has (λ n. 16 ≤ page_lift (node_at s.pages n)) (k.chain 0) leaf_there)

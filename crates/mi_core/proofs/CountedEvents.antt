@@ -1,7 +1,6 @@
 -- The bound of the allotted pages is kept.
 use Rattle.std.proofs.Common.{◌≡◌, ℕ, ◌+◌, ◌*◌, ◌≤◌, List, [], ◌∷◌, length, length-append, set, Bool, true, false, cond, Some, refl, sym, ap, ◌∙◌, arith, inl, inr, suc, zero, None}
 use Rattle.std.specs.Prelude.{replicate, slice_get}
-use Rattle.mi_core.specs.Noted.{Noted}
 use Rattle.mi_core.specs.Counted.{copies_of, page_lift, total, Counted, NoneEarly}
 use Rattle.mi_core.specs.Events.{first_actor, opened, Can, Event, after, ended, made_actor, more_seen}
 use Rattle.mi_core.proofs.OpeningLemmas.{get_copy}
@@ -22,7 +21,7 @@ use Rattle.std.proofs.lemmas.Option.{same_Some}
 use Rattle.mi_core.proofs.BoundEvents.{bound_holds}
 use Rattle.mi_core.proofs.CountEvents.{event_keeps_counts}
 use Rattle.mi_entries.proofs.EntryLemmas.{get_more}
-use Rattle.mi_core.proofs.LaterEvents.{event_keeps_notes, event_leads_on}
+use Rattle.mi_core.proofs.LaterEvents.{event_leads_on}
 use Rattle.mi_core.proofs.LawLemmas.{event_keeps}
 use Rattle.mi_entries.proofs.Tools.{not_true}
 
@@ -53,47 +52,47 @@ counted_by e s k h a r there can same back =
     record { lifted = both.0; told = both.1; bound = old_bound s (after s a r e) h (event_leads_on e s k a r there can) same back }
 
 abbrev pub StaysCounted : Event → Type 0
-StaysCounted e = (s : State) → Sound s → Noted s → Counted s → (a : ℕ) (r : Actor) → slice_get s.actors a ≡ Some r → Can s a r e → Counted (after s a r e)
+StaysCounted e = (s : State) → Sound s → Counted s → (a : ℕ) (r : Actor) → slice_get s.actors a ≡ Some r → Can s a r e → Counted (after s a r e)
 
 pub event_keeps_counted : (e : Event) → StaysCounted e
-event_keeps_counted see = λ s k m h a r there can. counted_by see s k h a r there can refl (early_was s.actors a r _ there (λ z. z))
-event_keeps_counted look = λ s k m h a r there can. counted_by look s k h a r there can refl (early_was s.actors a r _ there (λ z. z))
-event_keeps_counted no_work = λ s k m h a r there can. counted_by no_work s k h a r there can refl (early_was s.actors a r _ there (λ z. z))
-event_keeps_counted (meet page) = λ s k m h a r there can. counted_by (meet page) s k h a r there can refl (early_was s.actors a r _ there (λ z. z))
-event_keeps_counted (refuse why) = λ s k m h a r there can. counted_by (refuse why) s k h a r there can refl (early_was s.actors a r _ there (λ z. z))
-event_keeps_counted (refuse_at page why) = λ s k m h a r there can. counted_by (refuse_at page why) s k h a r there can refl (early_was s.actors a r _ there (λ z. z))
-event_keeps_counted (visit page) = λ s k m h a r there can. counted_by (visit page) s k h a r there can refl (early_was s.actors a r _ there (λ z. z))
-event_keeps_counted (start page) = λ s k m h a r there can. counted_by (start page) s k h a r there can refl (early_was s.actors a r _ there (λ z. z))
-event_keeps_counted (trim page node) = λ s k m h a r there can. counted_by (trim page node) s k h a r there can refl (early_was s.actors a r _ there (λ z. z))
-event_keeps_counted (miss_shard n) = λ s k m h a r there can. counted_by (miss_shard n) s k h a r there can refl (early_was s.actors a r _ there (λ z. z))
-event_keeps_counted (claim_shard n kept) = λ s k m h a r there can. counted_by (claim_shard n kept) s k h a r there can refl (early_was s.actors a r _ there (λ z. z))
-event_keeps_counted (release_shard n kept) = λ s k m h a r there can. counted_by (release_shard n kept) s k h a r there can refl (early_was s.actors a r _ there (λ z. z))
-event_keeps_counted (reserve n kept room) = λ s k m h a r there can. counted_by (reserve n kept room) s k h a r there can refl (early_was s.actors a r _ there (λ z. z))
-event_keeps_counted pin = λ s k m h a r there can. counted_by pin s k h a r there can refl (early_was s.actors a r _ there (λ z. z))
-event_keeps_counted unpin = λ s k m h a r there can. counted_by unpin s k h a r there can refl (early_was s.actors a r _ there (λ z. z))
-event_keeps_counted (claim_leaf p) = λ s k m h a r there can. counted_by (claim_leaf p) s k h a r there can refl (early_was s.actors a r _ there (λ z. z))
-event_keeps_counted release_leaf = λ s k m h a r there can. counted_by release_leaf s k h a r there can refl (early_was s.actors a r _ there (λ z. z))
-event_keeps_counted (insert op id page node kept e) = λ s k m h a r there can. counted_by (insert op id page node kept e) s k h a r there can refl (early_was s.actors a r _ there (λ z. z))
-event_keeps_counted (delete op id page node kept key) = λ s k m h a r there can. counted_by (delete op id page node kept key) s k h a r there can refl (early_was s.actors a r _ there (λ z. z))
-event_keeps_counted lack = λ s k m h a r there can. counted_by lack s k h a r there can refl (early_was s.actors a r _ there (λ z. z))
-event_keeps_counted (grow level key child) = λ s k m h a r there can. counted_by (grow level key child) s k h a r there can refl (early_was s.actors a r _ there (λ z. z))
-event_keeps_counted (split_page page node) = λ s k m h a r there can. counted_by (split_page page node) s k h a r there can refl (early_was s.actors a r _ there (λ z. z))
-event_keeps_counted (post page node key child) = λ s k m h a r there can. counted_by (post page node key child) s k h a r there can refl (early_was s.actors a r _ there (λ z. z))
-event_keeps_counted (gather page node) = λ s k m h a r there can. counted_by (gather page node) s k h a r there can refl (early_was s.actors a r _ there (λ z. z))
-event_keeps_counted (copy_in page node e) = λ s k m h a r there can. counted_by (copy_in page node e) s k h a r there can refl (early_was s.actors a r _ there (λ z. z))
-event_keeps_counted publish = λ s k m h a r there can. counted_by publish s k h a r there can refl (early_was s.actors a r _ there (λ z. z))
-event_keeps_counted (give_up pages) = λ s k m h a r there can. counted_by (give_up pages) s k h a r there can refl (early_was s.actors a r _ there (λ z. z))
-event_keeps_counted (take_sweep p) = λ s k m h a r there can. counted_by (take_sweep p) s k h a r there can refl (early_was s.actors a r _ there (λ z. z))
-event_keeps_counted (take_split p) = λ s k m h a r there can. counted_by (take_split p) s k h a r there can refl (early_was s.actors a r _ there (λ z. z))
-event_keeps_counted (sweep page node) = λ s k m h a r there can. counted_by (sweep page node) s k h a r there can refl (early_was s.actors a r _ there (λ z. z))
-event_keeps_counted depart = λ s k m h a r there can. counted_by depart s k h a r there can refl (early_was s.actors a r _ there (λ z. z))
-event_keeps_counted (uncopy page node e told) = λ s k m h a r there can. counted_by (uncopy page node e told) s k h a r there can refl (early_was s.actors a r _ there (λ z. late told r.early z))
+event_keeps_counted see = λ s k h a r there can. counted_by see s k h a r there can refl (early_was s.actors a r _ there (λ z. z))
+event_keeps_counted look = λ s k h a r there can. counted_by look s k h a r there can refl (early_was s.actors a r _ there (λ z. z))
+event_keeps_counted no_work = λ s k h a r there can. counted_by no_work s k h a r there can refl (early_was s.actors a r _ there (λ z. z))
+event_keeps_counted (meet page) = λ s k h a r there can. counted_by (meet page) s k h a r there can refl (early_was s.actors a r _ there (λ z. z))
+event_keeps_counted (refuse why) = λ s k h a r there can. counted_by (refuse why) s k h a r there can refl (early_was s.actors a r _ there (λ z. z))
+event_keeps_counted (refuse_at page why) = λ s k h a r there can. counted_by (refuse_at page why) s k h a r there can refl (early_was s.actors a r _ there (λ z. z))
+event_keeps_counted (visit page) = λ s k h a r there can. counted_by (visit page) s k h a r there can refl (early_was s.actors a r _ there (λ z. z))
+event_keeps_counted (start page) = λ s k h a r there can. counted_by (start page) s k h a r there can refl (early_was s.actors a r _ there (λ z. z))
+event_keeps_counted (trim page node) = λ s k h a r there can. counted_by (trim page node) s k h a r there can refl (early_was s.actors a r _ there (λ z. z))
+event_keeps_counted (miss_shard n) = λ s k h a r there can. counted_by (miss_shard n) s k h a r there can refl (early_was s.actors a r _ there (λ z. z))
+event_keeps_counted (claim_shard n kept) = λ s k h a r there can. counted_by (claim_shard n kept) s k h a r there can refl (early_was s.actors a r _ there (λ z. z))
+event_keeps_counted (release_shard n kept) = λ s k h a r there can. counted_by (release_shard n kept) s k h a r there can refl (early_was s.actors a r _ there (λ z. z))
+event_keeps_counted (reserve n kept room) = λ s k h a r there can. counted_by (reserve n kept room) s k h a r there can refl (early_was s.actors a r _ there (λ z. z))
+event_keeps_counted pin = λ s k h a r there can. counted_by pin s k h a r there can refl (early_was s.actors a r _ there (λ z. z))
+event_keeps_counted unpin = λ s k h a r there can. counted_by unpin s k h a r there can refl (early_was s.actors a r _ there (λ z. z))
+event_keeps_counted (claim_leaf p) = λ s k h a r there can. counted_by (claim_leaf p) s k h a r there can refl (early_was s.actors a r _ there (λ z. z))
+event_keeps_counted release_leaf = λ s k h a r there can. counted_by release_leaf s k h a r there can refl (early_was s.actors a r _ there (λ z. z))
+event_keeps_counted (insert op id page node kept e) = λ s k h a r there can. counted_by (insert op id page node kept e) s k h a r there can refl (early_was s.actors a r _ there (λ z. z))
+event_keeps_counted (delete op id page node kept key) = λ s k h a r there can. counted_by (delete op id page node kept key) s k h a r there can refl (early_was s.actors a r _ there (λ z. z))
+event_keeps_counted lack = λ s k h a r there can. counted_by lack s k h a r there can refl (early_was s.actors a r _ there (λ z. z))
+event_keeps_counted (grow level key child) = λ s k h a r there can. counted_by (grow level key child) s k h a r there can refl (early_was s.actors a r _ there (λ z. z))
+event_keeps_counted (split_page page node) = λ s k h a r there can. counted_by (split_page page node) s k h a r there can refl (early_was s.actors a r _ there (λ z. z))
+event_keeps_counted (post page node key child) = λ s k h a r there can. counted_by (post page node key child) s k h a r there can refl (early_was s.actors a r _ there (λ z. z))
+event_keeps_counted (gather page node) = λ s k h a r there can. counted_by (gather page node) s k h a r there can refl (early_was s.actors a r _ there (λ z. z))
+event_keeps_counted (copy_in page node e) = λ s k h a r there can. counted_by (copy_in page node e) s k h a r there can refl (early_was s.actors a r _ there (λ z. z))
+event_keeps_counted publish = λ s k h a r there can. counted_by publish s k h a r there can refl (early_was s.actors a r _ there (λ z. z))
+event_keeps_counted (give_up pages) = λ s k h a r there can. counted_by (give_up pages) s k h a r there can refl (early_was s.actors a r _ there (λ z. z))
+event_keeps_counted (take_sweep p) = λ s k h a r there can. counted_by (take_sweep p) s k h a r there can refl (early_was s.actors a r _ there (λ z. z))
+event_keeps_counted (take_split p) = λ s k h a r there can. counted_by (take_split p) s k h a r there can refl (early_was s.actors a r _ there (λ z. z))
+event_keeps_counted (sweep page node) = λ s k h a r there can. counted_by (sweep page node) s k h a r there can refl (early_was s.actors a r _ there (λ z. z))
+event_keeps_counted depart = λ s k h a r there can. counted_by depart s k h a r there can refl (early_was s.actors a r _ there (λ z. z))
+event_keeps_counted (uncopy page node e told) = λ s k h a r there can. counted_by (uncopy page node e told) s k h a r there can refl (early_was s.actors a r _ there (λ z. late told r.early z))
   where
     late : (told early : Bool) → cond told early true ≡ false → early ≡ false
     late true early e = e
     late false early e = absurd (false≢true (sym e))
-event_keeps_counted fork = λ s k m h a r there can. counted_by fork s k h a r there can refl (λ none. early_was s.actors a r (saw s.board r) there (λ z. z) (λ b t e. none b t (get_more (set s.actors a (saw s.board r)) (made_actor s.board r.floor ∷ []) b t e)))
-event_keeps_counted (absorb b t) = λ s k m h a r there can. counted_by (absorb b t) s k h a r there can refl (λ none.
+event_keeps_counted fork = λ s k h a r there can. counted_by fork s k h a r there can refl (λ none. early_was s.actors a r (saw s.board r) there (λ z. z) (λ b t e. none b t (get_more (set s.actors a (saw s.board r)) (made_actor s.board r.floor ∷ []) b t e)))
+event_keeps_counted (absorb b t) = λ s k h a r there can. counted_by (absorb b t) s k h a r there can refl (λ none.
     let q : Actor = more_seen t r in
     let its = set_else s.actors a b q can.0 ∙ can.1 in
     let own : slice_get (set (set s.actors a q) b (ended t)) a ≡ Some q = set_else (set s.actors a q) b a (ended t) (λ e. can.0 (sym e)) ∙ set_there s.actors a q r there in
@@ -107,7 +106,7 @@ event_keeps_counted (absorb b t) = λ s k m h a r there can. counted_by (absorb 
     left : (x y : Bool) → cond x true y ≡ false → x ≡ false
     left true y e = e
     left false y e = refl
-event_keeps_counted allot = λ s k m h a r there can.
+event_keeps_counted allot = λ s k h a r there can.
     let t : State = after s a r allot in
     let both = event_keeps_counts allot s k h.lifted h.told a r there can in
     let q : Actor = record (saw s.board r) { fresh = Some s.board.allotted } in
@@ -115,7 +114,7 @@ event_keeps_counted allot = λ s k m h a r there can.
     record {
       lifted = both.0;
       told = both.1;
-      bound = λ none. bound_holds t (event_keeps allot s k a r there can) (event_keeps_notes allot s k m a r there can) both.0 (λ b z e.
+      bound = λ none. bound_holds t (event_keeps allot s k a r there can) both.0 (λ b z e.
           not_true z.undone (λ u. let full : s.board.allotted ≡ s.board.settings.pages = elim (at_set s.actors a b q z e) [
             | inl w ↦ h.told a r there (ap (λ (x : Actor). x.undone) w.1 ∙ u) (ap (λ (x : Actor). x.early) w.1 ∙ none b z e)
             | inr w ↦ h.told b z w.1 u (none b z e)

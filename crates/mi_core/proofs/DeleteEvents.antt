@@ -29,6 +29,7 @@ use Rattle.mi_core.specs.Events.{CanDelete, after}
 use Rattle.mi_core.specs.Events.Event.{delete}
 use Rattle.mi_forest.specs.Forests.{all_entries, Forest, IsForest}
 use Rattle.mi_core.specs.Sound.{Sound}
+use Rattle.mi_core.specs.Named.{EntryOf}
 use Rattle.mi_core.specs.Pages.{ArePages, forest_of, node_or_fresh, has_page}
 use Rattle.mi_entries.specs.Splits.{AreEntries}
 use Rattle.mi_core.specs.State.{count_if, State, board_actor, node_at}
@@ -48,7 +49,7 @@ use Rattle.mi_forest.specs.Changes.{SetsPage, with_entries}
 use Rattle.mi_entries.proofs.DeleteLemmas.{entries_delete, living_all}
 use Rattle.mi_forest.proofs.EventLemmas.{death_event}
 use Rattle.mi_entries.proofs.LivingLemmas.{any_among, born_at}
-use Rattle.mi_core.proofs.RecordedLemmas.{EntryOf, entry_here, key_there, leaf_there, object_of}
+use Rattle.mi_core.proofs.RecordedLemmas.{entry_here, key_there, leaf_there, object_of}
 
 module _ (s : State) (k : Sound s) (a : ℕ) (r : Actor) (there : slice_get s.actors a ≡ Some r)
     (op id page : ℕ) (node : Node) (kept : Rows) (key : ℕ) (can : CanDelete s r id page node kept key) where
@@ -182,7 +183,6 @@ module _ (s : State) (k : Sound s) (a : ℕ) (r : Actor) (there : slice_get s.ac
         linked = linked_set s.board b' s.pages s.actors actors' k.chain p refl refl held page node marked can.may.page_is.there refl;
         there = there_set s.board b' s.pages s.actors actors' k.chain p refl refl held page node marked can.may.page_is.there refl;
         height = root_set s.board b' s.pages s.actors actors' k.chain p refl refl held page node marked can.may.page_is.there refl;
-        low = p.low;
         length_is = length-set s.pages page (Some marked) ∙ p.length_is;
         most = p.most;
         passed_over = p.passed_over;

@@ -155,7 +155,6 @@ module _ (s : State) (k : Sound s) (floor : Position) (at : IsPosition s.board.l
       linked = p.linked;
       there = p.there;
       height = p.height;
-      low = p.low;
       length_is = p.length_is;
       most = p.most;
       passed_over = p.passed_over;

@@ -170,7 +170,6 @@ module _ (s : State) (k : Sound s) (a : ℕ) (r : Actor) (there : slice_get s.ac
       linked = p.linked;
       there = p.there;
       height = p.height;
-      low = p.low;
       length_is = p.length_is;
       most = p.most;
       passed_over = few;

@@ -18,7 +18,6 @@ use Rattle.mi_core.specs.State.{count_if, State, node_at, put_actor, put_board, 
 use Rattle.mi_entries.specs.Actors.{Actor}
 use Rattle.mi_core.proofs.ActorLemmas.{claims_by, count_set, each_set, holders_by, retired_by, set_else, sweeps_by, works_by}
 use Rattle.std.proofs.lemmas.Option.{none-some}
-use Rattle.mi_forest.proofs.BoundLemmas.{height_bound}
 use Rattle.mi_entries.proofs.ContentLemmas.{entries_stay}
 use Rattle.mi_forest.proofs.GrowLemmas.{grows_back, grows_flat, grows_grown, grows_keep, grows_new}
 use Rattle.mi_core.proofs.HalveEvents.{count_some}
@@ -111,7 +110,6 @@ module _ (s : State) (k : Sound s) (a : ℕ) (r : Actor) (there : slice_get s.ac
         linked = linked;
         there = is_there;
         height = root_level;
-        low = (let l = height_bound new forest (let m = p.most in let u = k.limits.pages.1 in omega arith) in omega (arith, root_level, l));
         length_is = length-set s.pages f (Some root') ∙ p.length_is;
         most = p.most;
         passed_over = p.passed_over;

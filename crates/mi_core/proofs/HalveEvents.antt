@@ -3,6 +3,8 @@ use Rattle.std.specs.List.{filter}
 use Rattle.std.proofs.lemmas.List.{length-map}
 use Rattle.mi_key.specs.declared.entries.Entry.{Entry}
 use Rattle.mi_page.specs.Entries.{outlives, without_dead}
+use Rattle.mi_page.specs.declared.routes.Route.{Route}
+use Rattle.std.proofs.lemmas.Bool.Decides.{nat_tests}
 use Rattle.mi_page.specs.Nodes.{IsNode, Node, item_count, lower_half, middle_key, upper_half}
 use Rattle.std.proofs.Common.{◌⊎◌, ◌≡◌, ◌≢◌, ℕ, suc, zero, ◌+◌, ◌<◌, ◌≤◌, ◌==◌, List, [], ◌∷◌, ◌++◌, length, set, Bool, true, false, cond, refl, sym, ap, ◌∙◌, subst, arith, Option, Some, None, inl, inr, length-set, get_or-set_other, get_or-set_same, eq-eqb}
 use Rattle.mi_forest.proofs.MoveLemmas.{stands}
@@ -11,7 +13,8 @@ use Rattle.std.proofs.lemmas.Bool.{cases_eq, eqb-true}
 use Rattle.mi_base.specs.History.{entered, events_at}
 use Rattle.mi_core.specs.Actors.{Suits}
 use Rattle.mi_core.specs.Boards.{floor_of}
-use Rattle.mi_core.specs.Events.{after, hand, split_at, trim_leaf}
+use Rattle.mi_core.specs.Events.{after, hand, split_at}
+use Rattle.mi_core.specs.Effects.{trim_leaf, trim_node}
 use Rattle.mi_core.specs.Events.Event.{split_page}
 use Rattle.mi_forest.specs.Forests.{Forest, all_entries, IsLinked, occurrence}
 use Rattle.mi_core.specs.Sound.{Sound}
@@ -25,7 +28,6 @@ use Rattle.mi_entries.proofs.ContentLemmas.{entries_stay}
 use Rattle.mi_core.proofs.KeptLemmas.{some_none}
 use Rattle.mi_tree.proofs.ListLemmas.{all_weaker}
 use Rattle.mi_core.proofs.PageLemmas.{within}
-use Rattle.mi_core.specs.Effects.{trim_node}
 use Rattle.mi_forest.specs.Changes.{HalvesPage, put_after as right_after}
 use Rattle.mi_forest.proofs.HandLemmas.{hand_once}
 use Rattle.mi_forest.proofs.SplitLemmas.{halves_flat, halves_grown, halves_keep, halves_level, halves_new, linked_back}
@@ -117,7 +119,6 @@ module _ (s : State) (k : Sound s) (a : ℕ) (r : Actor) (there : slice_get s.ac
         linked = linked;
         there = is_there;
         height = halves_level old new p.forest page f halves ∙ p.height;
-        low = p.low;
         length_is = length-set first' f (Some (upper_half node)) ∙ length-set s.pages page (Some (lower_half f node)) ∙ p.length_is;
         most = p.most;
         passed_over = p.passed_over;
@@ -218,17 +219,27 @@ module _ (s : State) (k : Sound s) (page : ℕ) (node : Node) (on : node_at s.pa
         | false ↦ λ e h. h
       ]) refl full
 
-  -- a leaf page has room for an entry after a trim, or it is full
-  pub room_or_page_full : node.level ≡ 0 → (u : ℕ) → (length (without_dead u node.entries) < 32) ⊎ (item_count (trim_leaf u node) ≡ 32)
-  room_or_page_full leaf u =
-      let less = at_most (λ z. outlives z.death u) node.entries in
-      let routes = ap (λ rs. length rs) (is_node.leaf leaf) in
-      let few = is_node.entries.few in
-      let size = length-map node.entries (λ (z : Entry). z.key) in
-      elim (cases_eq (length (without_dead u node.entries)) 32) [
-        | inl e ↦ inr (ap (λ b. item_count (cond b (trim_node u node) node)) (eq-eqb node.level 0 leaf) ∙ (let n : length (without_dead u node.entries) + length node.routes ≡ 32 = omega arith in n))
-        | inr n ↦ inl (omega arith)
-      ]
+  -- a page that is trimmed where it is a leaf page has at most 32 items
+  at_most_32 : (u : ℕ) → item_count (trim_leaf u node) ≤ 32
+  at_most_32 u =
+      let P : Bool → Type 0 = λ b. (node.level == 0) ≡ b → item_count (cond b (trim_node u node) node) ≤ 32 in
+      (elim (node.level == 0) as P [
+        | true ↦ λ e.
+            let less = at_most (λ z. outlives z.death u) node.entries in
+            let routes = ap (λ rs. length rs) (is_node.leaf (eqb-true node.level 0 e)) in
+            let few = is_node.entries.few in
+            let size = length-map node.entries (λ (z : Entry). z.key) in
+            omega arith
+        | false ↦ λ e.
+            let above : 0 < node.level = grind (arith, nat_tests) in
+            let none = ap (λ es. length es) (is_node.inner above) in
+            let few = is_node.routes.few in
+            let size = length-map node.routes (λ (z : Route). z.key) in
+            omega arith
+      ]) refl
+
+  pub roomy_or_full : (u : ℕ) → (item_count (trim_leaf u node) < 32) ⊎ (item_count (trim_leaf u node) ≡ 32)
+  roomy_or_full u = elim (cases_eq (item_count (trim_leaf u node)) 32) [ inl e ↦ inr e | inr n ↦ inl (let m = at_most_32 u in omega arith) ]
 
 module _ (s : State) (k : Sound s) (a : ℕ) (r : Actor) (there : slice_get s.actors a ≡ Some r) (page : ℕ) (node : Node) (f : ℕ) (has : r.fresh ≡ Some f) (on : node_at s.pages page ≡ Some node) where
   pub split_page_keeps : item_count (trim_leaf r.floor.updates node) ≡ 32 → Sound (after s a r (split_page page node))

@@ -171,7 +171,6 @@ module _ (s : State) (k : Sound s) (a : ℕ) (r : Actor) (there : slice_get s.ac
         linked = linked_put s.board b' s.pages s.actors actors' k.chain p refl refl (held_stays s.actors a r q there same) page node can.may.page_is.there can.may.page_is.level r.floor.updates e can.may.inside can.space fresh_key;
         there = there_set s.board b' s.pages s.actors actors' k.chain p refl refl (held_stays s.actors a r q there same) page node (put_entry r.floor.updates e node) can.may.page_is.there refl;
         height = root_level;
-        low = p.low;
         length_is = length-set s.pages page (Some (put_entry r.floor.updates e node)) ∙ p.length_is;
         most = p.most;
         passed_over = p.passed_over;

@@ -11,7 +11,8 @@ use Rattle.mi_core.specs.Effects.{paid, saw, post_route}
 use Rattle.mi_core.specs.Events.{Can, Event, after, ended, first_actor, hand, leaf_or, made_actor, more_seen, opened}
 use Rattle.mi_core.specs.Events.Event.{see, look, meet, refuse, refuse_at, visit, start, trim, miss_shard, claim_shard, release_shard, reserve, pin, unpin, claim_leaf, release_leaf, insert, delete, allot, lack, grow, split_page, post, gather, copy_in, uncopy, publish, give_up, take_sweep, take_split, no_work, sweep, fork, absorb, depart}
 use Rattle.mi_core.specs.Later.{IsLater}
-use Rattle.mi_core.specs.Noted.{Noted}
+use Rattle.mi_core.specs.Noted.{NotesStand}
+use Rattle.mi_core.proofs.NamedLemmas.{first_page}
 use Rattle.mi_entries.specs.Actors.{Actor}
 use Rattle.mi_core.specs.State.{State, node_at, put_actor}
 use Rattle.mi_core.specs.Boards.{BoardState}
@@ -133,75 +134,61 @@ event_leads_on fork = λ s k a r there can. record { settings = refl; more = [];
 event_leads_on (absorb b t) = λ s k a r there can. record { settings = refl; more = []; log = sym (append-nil s.board.log); allotted = omega arith; height = omega arith; actors = omega (arith, length-set (set s.actors a (more_seen t r)) b (ended t), length-set s.actors a (more_seen t r)); pages = stay s.pages }
 
 -- a note of a page that is linked
-noted_on : (s t : State) → Noted s → Goes s.pages t.pages → ((b : ℕ) (z : Actor) → slice_get t.actors b ≡ Some z → (n : Node) × (node_at s.pages z.page ≡ Some n)) → Noted t
-noted_on s t h goes each =
-    let f = goes 0 h.first h.there in
-    record {
-      first = f.now;
-      there = f.there;
-      level = f.level ∙ h.level;
-      low = f.low ∙ h.low;
-      each = λ b z e. let o = each b z e in let m = goes z.page o.0 o.1 in (m.now, m.there);
-    }
+noted_on : (s t : State) → Goes s.pages t.pages → ((b : ℕ) (z : Actor) → slice_get t.actors b ≡ Some z → (n : Node) × (node_at s.pages z.page ≡ Some n)) → NotesStand t.pages t.actors
+noted_on s t goes each b z e = let o = each b z e in let m = goes z.page o.0 o.1 in (m.now, m.there)
 
 -- one actor notes another page, or none
-noted_set : (s : State) → Noted s → (a : ℕ) (r q : Actor) → slice_get s.actors a ≡ Some r → (n : Node) × (node_at s.pages q.page ≡ Some n)
+noted_set : (s : State) → NotesStand s.pages s.actors → (a : ℕ) (r q : Actor) → slice_get s.actors a ≡ Some r → (n : Node) × (node_at s.pages q.page ≡ Some n)
     → (b : ℕ) (z : Actor) → slice_get (set s.actors a q) b ≡ Some z → (n : Node) × (node_at s.pages z.page ≡ Some n)
 noted_set s h a r q there its b z e = elim (at_set s.actors a b q z e) [
   | inl m ↦ subst (λ (x : Actor). (n : Node) × (node_at s.pages x.page ≡ Some n)) m.1 its
-  | inr m ↦ h.each b z m.1
+  | inr m ↦ h b z m.1
 ]
 
 abbrev pub KeepsNotes : Event → Type 0
-KeepsNotes e = (s : State) → Sound s → Noted s → (a : ℕ) (r : Actor) → slice_get s.actors a ≡ Some r → Can s a r e → Noted (after s a r e)
+KeepsNotes e = (s : State) → Sound s → NotesStand s.pages s.actors → (a : ℕ) (r : Actor) → slice_get s.actors a ≡ Some r → Can s a r e → NotesStand (after s a r e).pages (after s a r e).actors
 
 pub event_keeps_notes : (e : Event) → KeepsNotes e
-event_keeps_notes see = λ s k h a r there can. noted_on s (after s a r see) h (event_leads_on see s k a r there can).pages (noted_set s h a r _ there (h.each a r there))
-event_keeps_notes look = λ s k h a r there can. noted_on s (after s a r look) h (event_leads_on look s k a r there can).pages (noted_set s h a r _ there (h.each a r there))
-event_keeps_notes no_work = λ s k h a r there can. noted_on s (after s a r no_work) h (event_leads_on no_work s k a r there can).pages (noted_set s h a r _ there (h.each a r there))
-event_keeps_notes (miss_shard n) = λ s k h a r there can. noted_on s (after s a r (miss_shard n)) h (event_leads_on (miss_shard n) s k a r there can).pages (noted_set s h a r _ there (h.each a r there))
-event_keeps_notes (claim_shard n kept) = λ s k h a r there can. noted_on s (after s a r (claim_shard n kept)) h (event_leads_on (claim_shard n kept) s k a r there can).pages (noted_set s h a r _ there (h.each a r there))
-event_keeps_notes (release_shard n kept) = λ s k h a r there can. noted_on s (after s a r (release_shard n kept)) h (event_leads_on (release_shard n kept) s k a r there can).pages (noted_set s h a r _ there (h.each a r there))
-event_keeps_notes (reserve n kept room) = λ s k h a r there can. noted_on s (after s a r (reserve n kept room)) h (event_leads_on (reserve n kept room) s k a r there can).pages (noted_set s h a r _ there (h.each a r there))
-event_keeps_notes pin = λ s k h a r there can. noted_on s (after s a r pin) h (event_leads_on pin s k a r there can).pages (noted_set s h a r _ there (h.each a r there))
-event_keeps_notes unpin = λ s k h a r there can. noted_on s (after s a r unpin) h (event_leads_on unpin s k a r there can).pages (noted_set s h a r _ there (h.each a r there))
-event_keeps_notes (claim_leaf p) = λ s k h a r there can. noted_on s (after s a r (claim_leaf p)) h (event_leads_on (claim_leaf p) s k a r there can).pages (noted_set s h a r _ there (h.each a r there))
-event_keeps_notes release_leaf = λ s k h a r there can. noted_on s (after s a r release_leaf) h (event_leads_on release_leaf s k a r there can).pages (noted_set s h a r _ there (h.each a r there))
-event_keeps_notes lack = λ s k h a r there can. noted_on s (after s a r lack) h (event_leads_on lack s k a r there can).pages (noted_set s h a r _ there (h.each a r there))
-event_keeps_notes (give_up pages) = λ s k h a r there can. noted_on s (after s a r (give_up pages)) h (event_leads_on (give_up pages) s k a r there can).pages (noted_set s h a r _ there (h.each a r there))
-event_keeps_notes (take_sweep p) = λ s k h a r there can. noted_on s (after s a r (take_sweep p)) h (event_leads_on (take_sweep p) s k a r there can).pages (noted_set s h a r _ there (h.each a r there))
-event_keeps_notes (take_split p) = λ s k h a r there can. noted_on s (after s a r (take_split p)) h (event_leads_on (take_split p) s k a r there can).pages (noted_set s h a r _ there (h.each a r there))
-event_keeps_notes depart = λ s k h a r there can. noted_on s (after s a r depart) h (event_leads_on depart s k a r there can).pages (noted_set s h a r _ there (h.each a r there))
-event_keeps_notes publish = λ s k h a r there can. noted_on s (after s a r publish) h (event_leads_on publish s k a r there can).pages (noted_set s h a r _ there (h.each a r there))
-event_keeps_notes allot = λ s k h a r there can. noted_on s (after s a r allot) h (event_leads_on allot s k a r there can).pages (noted_set s h a r _ there (h.each a r there))
-event_keeps_notes (grow level key child) = λ s k h a r there can. noted_on s (after s a r (grow level key child)) h (event_leads_on (grow level key child) s k a r there can).pages (noted_set s h a r _ there (h.each a r there))
-event_keeps_notes (meet page) = λ s k h a r there can. noted_on s (after s a r (meet page)) h (event_leads_on (meet page) s k a r there can).pages (noted_set s h a r _ there can)
-event_keeps_notes (refuse why) = λ s k h a r there can. noted_on s (after s a r (refuse why)) h (event_leads_on (refuse why) s k a r there can).pages (noted_set s h a r _ there (h.each a r there))
-event_keeps_notes (refuse_at page why) = λ s k h a r there can. noted_on s (after s a r (refuse_at page why)) h (event_leads_on (refuse_at page why) s k a r there can).pages (noted_set s h a r _ there can.0)
-event_keeps_notes (visit page) = λ s k h a r there can. noted_on s (after s a r (visit page)) h (event_leads_on (visit page) s k a r there can).pages (noted_set s h a r _ there can)
-event_keeps_notes (start page) = λ s k h a r there can. noted_on s (after s a r (start page)) h (event_leads_on (start page) s k a r there can).pages (noted_set s h a r _ there can.3)
-event_keeps_notes (trim page node) = λ s k h a r there can. noted_on s (after s a r (trim page node)) h (event_leads_on (trim page node) s k a r there can).pages (noted_set s h a r _ there (node, can.there))
-event_keeps_notes (insert op id page node kept e) = λ s k h a r there can. noted_on s (after s a r (insert op id page node kept e)) h (event_leads_on (insert op id page node kept e) s k a r there can).pages (noted_set s h a r _ there (node, can.may.page_is.there))
-event_keeps_notes (delete op id page node kept key) = λ s k h a r there can. noted_on s (after s a r (delete op id page node kept key)) h (event_leads_on (delete op id page node kept key) s k a r there can).pages (noted_set s h a r _ there (node, can.may.page_is.there))
-event_keeps_notes (split_page page node) = λ s k h a r there can. noted_on s (after s a r (split_page page node)) h (event_leads_on (split_page page node) s k a r there can).pages (noted_set s h a r _ there (node, can.2))
-event_keeps_notes (post page node key child) = λ s k h a r there can. noted_on s (after s a r (post page node key child)) h (event_leads_on (post page node key child) s k a r there can).pages (noted_set s h a r _ there (node, can.0))
-event_keeps_notes (gather page node) = λ s k h a r there can. noted_on s (after s a r (gather page node)) h (event_leads_on (gather page node) s k a r there can).pages (noted_set s h a r _ there (node, can.0.there))
-event_keeps_notes (copy_in page node e) = λ s k h a r there can. noted_on s (after s a r (copy_in page node e)) h (event_leads_on (copy_in page node e) s k a r there can).pages (noted_set s h a r _ there (node, can.0.there))
-event_keeps_notes (uncopy page node e told) = λ s k h a r there can. noted_on s (after s a r (uncopy page node e told)) h (event_leads_on (uncopy page node e told) s k a r there can).pages (noted_set s h a r _ there (node, can.0.there))
-event_keeps_notes (sweep page node) = λ s k h a r there can. noted_on s (after s a r (sweep page node)) h (event_leads_on (sweep page node) s k a r there can).pages (noted_set s h a r _ there (node, can.0.there))
-event_keeps_notes fork = λ s k h a r there can. noted_on s (after s a r fork) h (stay s.pages) (λ b z e. elim (get_either (set s.actors a (saw s.board r)) (made_actor s.board r.floor) b z e) [
-  | inl m ↦ noted_set s h a r (saw s.board r) there (h.each a r there) b z m
-  | inr m ↦ subst (λ (x : Actor). (n : Node) × (node_at s.pages x.page ≡ Some n)) m.1 (h.first, h.there)
+event_keeps_notes see = λ s k h a r there can. noted_on s (after s a r see) (event_leads_on see s k a r there can).pages (noted_set s h a r _ there (h a r there))
+event_keeps_notes look = λ s k h a r there can. noted_on s (after s a r look) (event_leads_on look s k a r there can).pages (noted_set s h a r _ there (h a r there))
+event_keeps_notes no_work = λ s k h a r there can. noted_on s (after s a r no_work) (event_leads_on no_work s k a r there can).pages (noted_set s h a r _ there (h a r there))
+event_keeps_notes (miss_shard n) = λ s k h a r there can. noted_on s (after s a r (miss_shard n)) (event_leads_on (miss_shard n) s k a r there can).pages (noted_set s h a r _ there (h a r there))
+event_keeps_notes (claim_shard n kept) = λ s k h a r there can. noted_on s (after s a r (claim_shard n kept)) (event_leads_on (claim_shard n kept) s k a r there can).pages (noted_set s h a r _ there (h a r there))
+event_keeps_notes (release_shard n kept) = λ s k h a r there can. noted_on s (after s a r (release_shard n kept)) (event_leads_on (release_shard n kept) s k a r there can).pages (noted_set s h a r _ there (h a r there))
+event_keeps_notes (reserve n kept room) = λ s k h a r there can. noted_on s (after s a r (reserve n kept room)) (event_leads_on (reserve n kept room) s k a r there can).pages (noted_set s h a r _ there (h a r there))
+event_keeps_notes pin = λ s k h a r there can. noted_on s (after s a r pin) (event_leads_on pin s k a r there can).pages (noted_set s h a r _ there (h a r there))
+event_keeps_notes unpin = λ s k h a r there can. noted_on s (after s a r unpin) (event_leads_on unpin s k a r there can).pages (noted_set s h a r _ there (h a r there))
+event_keeps_notes (claim_leaf p) = λ s k h a r there can. noted_on s (after s a r (claim_leaf p)) (event_leads_on (claim_leaf p) s k a r there can).pages (noted_set s h a r _ there (h a r there))
+event_keeps_notes release_leaf = λ s k h a r there can. noted_on s (after s a r release_leaf) (event_leads_on release_leaf s k a r there can).pages (noted_set s h a r _ there (h a r there))
+event_keeps_notes lack = λ s k h a r there can. noted_on s (after s a r lack) (event_leads_on lack s k a r there can).pages (noted_set s h a r _ there (h a r there))
+event_keeps_notes (give_up pages) = λ s k h a r there can. noted_on s (after s a r (give_up pages)) (event_leads_on (give_up pages) s k a r there can).pages (noted_set s h a r _ there (h a r there))
+event_keeps_notes (take_sweep p) = λ s k h a r there can. noted_on s (after s a r (take_sweep p)) (event_leads_on (take_sweep p) s k a r there can).pages (noted_set s h a r _ there (h a r there))
+event_keeps_notes (take_split p) = λ s k h a r there can. noted_on s (after s a r (take_split p)) (event_leads_on (take_split p) s k a r there can).pages (noted_set s h a r _ there (h a r there))
+event_keeps_notes depart = λ s k h a r there can. noted_on s (after s a r depart) (event_leads_on depart s k a r there can).pages (noted_set s h a r _ there (h a r there))
+event_keeps_notes publish = λ s k h a r there can. noted_on s (after s a r publish) (event_leads_on publish s k a r there can).pages (noted_set s h a r _ there (h a r there))
+event_keeps_notes allot = λ s k h a r there can. noted_on s (after s a r allot) (event_leads_on allot s k a r there can).pages (noted_set s h a r _ there (h a r there))
+event_keeps_notes (grow level key child) = λ s k h a r there can. noted_on s (after s a r (grow level key child)) (event_leads_on (grow level key child) s k a r there can).pages (noted_set s h a r _ there (h a r there))
+event_keeps_notes (meet page) = λ s k h a r there can. noted_on s (after s a r (meet page)) (event_leads_on (meet page) s k a r there can).pages (noted_set s h a r _ there can)
+event_keeps_notes (refuse why) = λ s k h a r there can. noted_on s (after s a r (refuse why)) (event_leads_on (refuse why) s k a r there can).pages (noted_set s h a r _ there (h a r there))
+event_keeps_notes (refuse_at page why) = λ s k h a r there can. noted_on s (after s a r (refuse_at page why)) (event_leads_on (refuse_at page why) s k a r there can).pages (noted_set s h a r _ there can.0)
+event_keeps_notes (visit page) = λ s k h a r there can. noted_on s (after s a r (visit page)) (event_leads_on (visit page) s k a r there can).pages (noted_set s h a r _ there can)
+event_keeps_notes (start page) = λ s k h a r there can. noted_on s (after s a r (start page)) (event_leads_on (start page) s k a r there can).pages (noted_set s h a r _ there can.3)
+event_keeps_notes (trim page node) = λ s k h a r there can. noted_on s (after s a r (trim page node)) (event_leads_on (trim page node) s k a r there can).pages (noted_set s h a r _ there (node, can.there))
+event_keeps_notes (insert op id page node kept e) = λ s k h a r there can. noted_on s (after s a r (insert op id page node kept e)) (event_leads_on (insert op id page node kept e) s k a r there can).pages (noted_set s h a r _ there (node, can.may.page_is.there))
+event_keeps_notes (delete op id page node kept key) = λ s k h a r there can. noted_on s (after s a r (delete op id page node kept key)) (event_leads_on (delete op id page node kept key) s k a r there can).pages (noted_set s h a r _ there (node, can.may.page_is.there))
+event_keeps_notes (split_page page node) = λ s k h a r there can. noted_on s (after s a r (split_page page node)) (event_leads_on (split_page page node) s k a r there can).pages (noted_set s h a r _ there (node, can.2))
+event_keeps_notes (post page node key child) = λ s k h a r there can. noted_on s (after s a r (post page node key child)) (event_leads_on (post page node key child) s k a r there can).pages (noted_set s h a r _ there (node, can.0))
+event_keeps_notes (gather page node) = λ s k h a r there can. noted_on s (after s a r (gather page node)) (event_leads_on (gather page node) s k a r there can).pages (noted_set s h a r _ there (node, can.0.there))
+event_keeps_notes (copy_in page node e) = λ s k h a r there can. noted_on s (after s a r (copy_in page node e)) (event_leads_on (copy_in page node e) s k a r there can).pages (noted_set s h a r _ there (node, can.0.there))
+event_keeps_notes (uncopy page node e told) = λ s k h a r there can. noted_on s (after s a r (uncopy page node e told)) (event_leads_on (uncopy page node e told) s k a r there can).pages (noted_set s h a r _ there (node, can.0.there))
+event_keeps_notes (sweep page node) = λ s k h a r there can. noted_on s (after s a r (sweep page node)) (event_leads_on (sweep page node) s k a r there can).pages (noted_set s h a r _ there (node, can.0.there))
+event_keeps_notes fork = λ s k h a r there can. noted_on s (after s a r fork) (stay s.pages) (λ b z e. elim (get_either (set s.actors a (saw s.board r)) (made_actor s.board r.floor) b z e) [
+  | inl m ↦ noted_set s h a r (saw s.board r) there (h a r there) b z m
+  | inr m ↦ subst (λ (x : Actor). (n : Node) × (node_at s.pages x.page ≡ Some n)) m.1 (let x = first_page s k in (x.0, x.1))
 ])
 event_keeps_notes (absorb o t) = λ s k h a r there can.
-    let one : Noted (put_actor a (more_seen t r) s) = noted_on s (put_actor a (more_seen t r) s) h (stay s.pages) (noted_set s h a r (more_seen t r) there (h.each a r there)) in
-    noted_on (put_actor a (more_seen t r) s) (after s a r (absorb o t)) one (stay s.pages) (noted_set (put_actor a (more_seen t r) s) one o t (ended t) (set_else s.actors a o (more_seen t r) can.0 ∙ can.1) (h.each o t can.1))
+    let one : NotesStand s.pages (put_actor a (more_seen t r) s).actors = noted_on s (put_actor a (more_seen t r) s) (stay s.pages) (noted_set s h a r (more_seen t r) there (h a r there)) in
+    noted_on (put_actor a (more_seen t r) s) (after s a r (absorb o t)) (stay s.pages) (noted_set (put_actor a (more_seen t r) s) one o t (ended t) (set_else s.actors a o (more_seen t r) can.0 ∙ can.1) (h o t can.1))
 
-pub opened_notes : (c : Configuration) (count more : ℕ) → Noted (opened c count more)
-opened_notes c count more = record {
-  first = fresh_node;
-  there = refl;
-  level = refl;
-  low = refl;
-  each = λ a r e. subst (λ (x : Actor). (n : Node) × (node_at (opened c count more).pages x.page ≡ Some n)) (get_copy count a first_actor r e) (fresh_node, refl);
-}
+pub opened_notes : (c : Configuration) (count more : ℕ) → NotesStand (opened c count more).pages (opened c count more).actors
+opened_notes c count more a r e = subst (λ (x : Actor). (n : Node) × (node_at (opened c count more).pages x.page ≡ Some n)) (get_copy count a first_actor r e) (fresh_node, refl)

@@ -40,3 +40,4 @@ pub mod KeptEvents
 pub mod NextLemmas
 pub mod FrameEvents
 pub mod RefusalLemmas
+pub mod StraightLemmas

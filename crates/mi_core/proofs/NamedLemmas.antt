@@ -1,5 +1,5 @@
 -- Which pages a value in hand names.
-use Rattle.std.proofs.Common.{◌≡◌, ℕ, ◌+◌, List, [], ◌∷◌, Option, Some, None, true, sym, ap, ◌∙◌, subst, arith}
+use Rattle.std.proofs.Common.{◌≡◌, ◌≤◌, ℕ, ◌+◌, List, [], ◌∷◌, Option, Some, None, true, sym, ap, ◌∙◌, subst, arith}
 use Rattle.std.specs.Prelude.{slice_get}
 use Rattle.std.specs.List.{AllByRecursion}
 use Rattle.mi_page.specs.Nodes.{Node}
@@ -10,7 +10,9 @@ use Rattle.mi_core.specs.Sound.{Sound}
 use Rattle.mi_core.specs.Pages.{forest_of, node_or_fresh}
 use Rattle.mi_core.specs.State.{State, node_at}
 use Rattle.mi_tree.proofs.ListLemmas.{all_get}
-use Rattle.mi_forest.proofs.MoveLemmas.{first_has, linked_in, stands}
+use Rattle.mi_forest.proofs.BoundLemmas.{height_bound}
+use Rattle.mi_forest.proofs.MoveLemmas.{first_has, level_in, linked_in, stands}
+use Rattle.mi_forest.proofs.NumberLemmas.{first_in}
 use Rattle.mi_core.specs.Named.{IsNamed}
 
 module _ (s : State) (k : Sound s) where
@@ -56,3 +58,18 @@ module _ (s : State) (k : Sound s) where
       let all : AllByRecursion (LeadsDown f n.level) n.routes = subst (λ (m : Node). AllByRecursion (LeadsDown f m.level) m.routes) here (k.pages.forest.routes p (k.pages.linked p n is)) in
       let l = all_get (LeadsDown f n.level) n.routes i x all at in
       told_of x.child level x.key l.linked (let h = l.height in omega arith) l.low
+
+  -- page 0 is a leaf page from the lowest key on
+  pub first_page : (n : Node) × (node_at s.pages 0 ≡ Some n) × (n.level ≡ 0) × (n.low ≡ 0)
+  first_page =
+      let within = first_in 0 (f.chain 0) k.pages.forest.first in
+      let level : (f.node 0).level ≡ 0 = level_in f.node 0 0 (f.chain 0) (k.pages.forest.chains 0) within in
+      let t = k.pages.there 0 (ap (λ l. has 0 (f.chain l)) level ∙ within) in
+      let is : f.node 0 ≡ t.0 = ap node_or_fresh t.1 in
+      (t.0, t.1, ap (λ (x : Node). x.level) (sym is) ∙ level, ap (λ (x : Node). x.low) (sym is) ∙ k.pages.forest.lowest 0 0 k.pages.forest.first)
+
+  pub few_levels : s.board.height ≤ 5
+  few_levels =
+      let bound = height_bound f k.pages.forest (let m = k.pages.most in let u = k.limits.pages.1 in omega arith) in
+      let same = k.pages.height in
+      omega arith

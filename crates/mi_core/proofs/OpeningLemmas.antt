@@ -67,7 +67,6 @@ module _ (c : Configuration) (limits : IsWithinLimits c) (metric : IsMetric (met
     linked = linked;
     there = is_there;
     height = refl;
-    low = omega arith;
     length_is = long;
     most = (let p = limits.pages.0 in omega arith);
     passed_over = λ p ps h. cc;

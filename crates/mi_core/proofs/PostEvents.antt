@@ -54,7 +54,6 @@ module _ (s : State) (k : Sound s) (a : ℕ) (r : Actor) (there : slice_get s.ac
         linked = linked_set s.board s.board s.pages s.actors actors' k.chain p refl refl (held_stays s.actors a r q there same) page node y on level;
         there = there_set s.board s.board s.pages s.actors actors' k.chain p refl refl (held_stays s.actors a r q there same) page node y on level;
         height = root_set s.board s.board s.pages s.actors actors' k.chain p refl refl (held_stays s.actors a r q there same) page node y on level;
-        low = p.low;
         length_is = length-set s.pages page (Some y) ∙ p.length_is;
         most = p.most;
         passed_over = p.passed_over;

@@ -17,6 +17,7 @@ use Rattle.mi_tree.specs.Births.{Born, born, born_after, born_from, living}
 use Rattle.mi_entries.specs.Entries.{HasPlace, born_in, counts, depth_of, id_of, is_placed, key_down, grid, Shows}
 use Rattle.mi_forest.specs.Forests.{Forest, all_entries}
 use Rattle.mi_core.specs.Sound.{Sound}
+use Rattle.mi_core.specs.Named.{EntryOf}
 use Rattle.mi_core.specs.Pages.{forest_of, node_or_fresh}
 use Rattle.mi_entries.specs.Records.{Rows, record_of, ShardRecord, home}
 use Rattle.mi_core.specs.State.{State, node_at}
@@ -67,15 +68,6 @@ inserted_from before objects (Delete id ∷ us) h =
 abbrev pub vector_in : Update → List ℤ
 vector_in (Insert id v) = v
 vector_in (Delete id) = []
-
--- the entry of a live object in its page
-pub record EntryOf (s : State) (n : Node) (o : Born) : Type 0 where
-  pub entry : Entry
-  pub place : ℕ
-  pub there : slice_get n.entries place ≡ Some entry
-  pub is : born_in entry ≡ o
-  pub key : entry.key ≡ key_down (grid s.board.settings) (depth (grid s.board.settings) s.board.log ((grid s.board.settings).perm o.vector)) o
-  pub counted : counts (grid s.board.settings) s.board.log entry ≡ true
 
 pub entry_of : (s : State) (k : Sound s) (page id : ℕ) (n : Node) (o : Born) → node_at s.pages page ≡ Some n → n.level ≡ 0 → living id s.board.log ≡ Some o
     → IsInside n.low n.high (key_down (grid s.board.settings) (depth (grid s.board.settings) s.board.log ((grid s.board.settings).perm o.vector)) o) → EntryOf s n o

@@ -237,7 +237,6 @@ module _ (s : State) (k : Sound s) (a : ℕ) (r : Actor) (there : slice_get s.ac
         linked = p.linked;
         there = p.there;
         height = p.height;
-        low = p.low;
         length_is = p.length_is;
         most = p.most;
         passed_over = λ y ys h. let o = some_before (λ z. not (same_cell w.leaf z)) s.board.passed_over y ys h in p.passed_over o.0 o.1 o.2;

@@ -233,7 +233,6 @@ module _ (s : State) (k : Sound s) (a : ℕ) (r : Actor) (there : slice_get s.ac
       linked = linked_set s.board s.board s.pages s.actors actors' k.chain p refl refl held page node new_page on.there refl;
       there = there_set s.board s.board s.pages s.actors actors' k.chain p refl refl held page node new_page on.there refl;
       height = root_set s.board s.board s.pages s.actors actors' k.chain p refl refl held page node new_page on.there refl;
-      low = p.low;
       length_is = length-set s.pages page (Some new_page) ∙ p.length_is;
       most = p.most;
       passed_over = p.passed_over;

@@ -26,6 +26,10 @@ with_entries entries n = record n { entries = entries }
 abbrev pub trim_node : ℕ → Node → Node
 trim_node floor n = with_entries (without_dead floor n.entries) n
 
+-- a leaf page is trimmed, and a route page stays as it is
+abbrev pub trim_leaf : ℕ → Node → Node
+trim_leaf floor n = cond (n.level == 0) (trim_node floor n) n
+
 -- after a trim, since it may need the room
 abbrev pub put_entry : ℕ → Entry → Node → Node
 put_entry floor e n = with_entries (put entry_cmp e (without_dead floor n.entries)) n

@@ -16,7 +16,7 @@ use Rattle.mi_tree.specs.Cells.{same_cell}
 use Rattle.mi_tree.specs.Counting.{is_crowded}
 use Rattle.mi_tree.specs.Legal.{MayFollow, cells_of}
 use Rattle.mi_entries.specs.Marks.{cell_end, cell_range, gather_more, split_or, swept_on}
-use Rattle.mi_core.specs.Effects.{committed, drop_entry, looked, mark_entry, noted, paid, post_route, put_entry, saw, sweep_node, trim_node, with_update}
+use Rattle.mi_core.specs.Effects.{trim_leaf, committed, drop_entry, looked, mark_entry, noted, paid, post_route, put_entry, saw, sweep_node, trim_node, with_update}
 use Rattle.mi_entries.specs.Records.{held_by, with_record, without_id, Rows, ShardRecord, home, no_shard, shard_at}
 use Rattle.mi_entries.specs.Entries.{IsNewEntry, record_key, grid}
 use Rattle.mi_core.specs.Boards.{BoardState, given_up, gone, grown, idle, is_claimed, next_split, next_sweep, opened_board, pinned, with_actor, with_claim, with_more, with_reserved, with_split, without_claim, without_pin}
@@ -158,7 +158,7 @@ Can s a r allot = (r.fresh ≡ None) × (s.board.allotted < s.board.settings.pag
 Can s a r lack = r.fresh ≡ None
 Can s a r (grow level key child) =
     (p : ℕ) × (r.fresh ≡ Some p) × (s.board.height + 1 ≡ level) × (0 < key) × (n : Node) × (node_at s.pages child ≡ Some n) × (n.level ≡ s.board.height) × (n.low ≡ key)
-Can s a r (split_page page node) = (p : ℕ) × (r.fresh ≡ Some p) × (node_at s.pages page ≡ Some node) × (item_count (cond (node.level == 0) (trim_node r.floor.updates node) node) ≡ 32)
+Can s a r (split_page page node) = (p : ℕ) × (r.fresh ≡ Some p) × (node_at s.pages page ≡ Some node) × (item_count (trim_leaf r.floor.updates node) ≡ 32)
 Can s a r (post page node key child) = (node_at s.pages page ≡ Some node) × MayPost s node key child
 Can s a r (gather page node) =
     IsLeafPage s page node × (p : List ℕ) × (r.claim ≡ Some p) × MayFollow s.board.settings s.board.log (Split p)
@@ -213,9 +213,6 @@ hand (Some p) = p
 abbrev pub leaf_or : Option (List ℕ) → List ℕ
 leaf_or None = []
 leaf_or (Some p) = p
-
-abbrev pub trim_leaf : ℕ → Node → Node
-trim_leaf floor n = cond (n.level == 0) (trim_node floor n) n
 
 -- what is left of a page that is halved, beside the upper half
 abbrev pub split_at : ℕ → Node → ℕ → State → State

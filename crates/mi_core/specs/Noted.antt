@@ -1,18 +1,14 @@
 -- What else is true of a state: the pages that actors have noted, those that have ended, and records that stand once.
-use Rattle.std.specs.Prelude.{◌≡◌, ◌≢◌, ℕ, List, [], ◌∷◌, true, false, Some, None, slice_get}
+use Rattle.std.specs.Prelude.{◌≡◌, ◌≢◌, ℕ, List, Option, [], ◌∷◌, true, false, Some, None, slice_get}
 use Rattle.std.specs.List.{AllByRecursion}
 use Rattle.mi_page.specs.Nodes.{Node}
 use Rattle.mi_entries.specs.Actors.{Actor}
 use Rattle.mi_entries.specs.Records.{Shard, ShardRecord, shard_at}
-use Rattle.mi_core.specs.State.{State, node_at}
+use Rattle.mi_core.specs.State.{node_at}
 
--- page 0 is a leaf page from the lowest key on; and each actor has noted a page that is linked
-pub record Noted (s : State) : Type 0 where
-  pub first : Node
-  pub there : node_at s.pages 0 ≡ Some first
-  pub level : first.level ≡ 0
-  pub low : first.low ≡ 0
-  pub each : (a : ℕ) (r : Actor) → slice_get s.actors a ≡ Some r → (n : Node) × (node_at s.pages r.page ≡ Some n)
+-- each actor has noted a page that is linked
+abbrev pub NotesStand : List (Option Node) → List Actor → Type 0
+NotesStand pages actors = (a : ℕ) (r : Actor) → slice_get actors a ≡ Some r → (n : Node) × (node_at pages r.page ≡ Some n)
 
 -- an actor that has ended holds nothing, and its flags are another's
 pub record HoldsNothing (r : Actor) : Type 0 where

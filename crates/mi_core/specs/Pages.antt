@@ -34,7 +34,6 @@ pub record ArePages (b : BoardState) (pages : List (Option Node)) (actors : List
   -- a linked page is there
   pub there : (p : ℕ) → IsLinked (forest_of b pages actors chain) p → (n : Node) × (node_at pages p ≡ Some n)
   pub height : (node_or_fresh (node_at pages b.root)).level ≡ b.height
-  pub low : b.height ≤ 5
   pub length_is : length pages ≡ b.settings.pages
   pub most : b.allotted ≤ b.settings.pages
   -- a leaf is passed over only where all pages are allotted

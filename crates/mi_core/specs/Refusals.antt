@@ -1,12 +1,12 @@
 -- Why a call was refused, as the board or a page has it.
-use Rattle.std.specs.Prelude.{◌≡◌, ◌≢◌, ◌≤◌, ℕ, ℤ, ◌==◌, ◌&&◌, List, true, length, cond, Some}
+use Rattle.std.specs.Prelude.{◌≡◌, ◌≢◌, ◌≤◌, ℕ, ℤ, ◌&&◌, List, true, length, Some}
 use Rattle.std.specs.List.{list_any}
 use Rattle.mi_base.specs.History.{updates_of}
 use Rattle.mi_base.specs.Permutations.{begins}
 use Rattle.mi_page.specs.Nodes.{Node, item_count}
 use Rattle.mi_tree.specs.Counting.{is_crowded}
 use Rattle.mi_tree.specs.Legal.{cells_of}
-use Rattle.mi_core.specs.Effects.{trim_node}
+use Rattle.mi_core.specs.Effects.{trim_leaf}
 use Rattle.mi_entries.specs.Actors.{Actor}
 use Rattle.mi_core.specs.Boards.{BoardState}
 use Rattle.mi_core.specs.State.{State, board_actor, node_at}
@@ -37,7 +37,7 @@ pub record IsHeld (b : BoardState) (a : ℕ) (leaf : List ℕ) (by : ℕ) : Type
 pub record IsPageFull (s : State) (floor page : ℕ) : Type 0 where
   pub node : Node
   pub there : node_at s.pages page ≡ Some node
-  pub items : item_count (cond (node.level == 0) (trim_node floor node) node) ≡ 32
+  pub items : item_count (trim_leaf floor node) ≡ 32
 
 -- the cause of each; grown where the root is at least at that level already
 abbrev pub Because : State → ℕ → Actor → Refusal → Type 0
