@@ -1,6 +1,6 @@
 -- Descents and budgets from section to section.
 use Rattle.std.proofs.Common.{◌≡◌, ℕ, ◌+◌, ◌*◌, ◌<◌, ◌≤◌, true, false, IsTrue, Some, None, Option, refl, ap, ◌∙◌, arith, inl, inr}
-use Rattle.std.specs.Prelude.{IfSome}
+use Rattle.std.specs.Prelude.{is_some, IfSome}
 use Rattle.std.proofs.Math.Nat.{mul-le-mul_right}
 use Rattle.mi_world.specs.View.{View, Later}
 use Rattle.mi_world.specs.Pages.{GoesDown, GoesRight}
@@ -70,12 +70,12 @@ stands_at v p sought key h = record { named = h.named; above = omega (arith, h.l
 pub budget_stays : (v w : View) → Later v w → w.fresh ≡ v.fresh → budget w ≤ budget v
 budget_stays v w l e = rw (e, ap (λ c. c.pages) l.settings) (omega (arith, l.allotted))
 
-pub budget_allots : (v w : View) → Later v w → v.fresh ≡ false → w.fresh ≡ true → v.allotted < w.allotted → w.allotted ≤ w.settings.pages → budget w < budget v
+pub budget_allots : (v w : View) → Later v w → is_some v.fresh ≡ false → is_some w.fresh ≡ true → v.allotted < w.allotted → w.allotted ≤ w.settings.pages → budget w < budget v
 budget_allots v w l e f less few =
     let same : w.settings.pages ≡ v.settings.pages = ap (λ c. c.pages) l.settings in
     rw (e, f) (omega (arith, same, less, few))
 
-pub budget_uses : (v w : View) → Later v w → v.fresh ≡ true → w.fresh ≡ false → budget w < budget v
+pub budget_uses : (v w : View) → Later v w → is_some v.fresh ≡ true → is_some w.fresh ≡ false → budget w < budget v
 budget_uses v w l e f =
     let same : w.settings.pages ≡ v.settings.pages = ap (λ c. c.pages) l.settings in
     rw (e, f) (omega (arith, same, l.allotted))

@@ -1,5 +1,5 @@
 -- The look of a post, and its growing.
-use Rattle.std.proofs.Common.{◌≡◌, ◌<◌, ◌≤◌, Bool, true, false, cond, Some, ap, arith, inl, inr, nat_lt}
+use Rattle.std.proofs.Common.{is_some, ◌≡◌, ◌<◌, ◌≤◌, Bool, true, false, cond, Some, ap, arith, inl, inr, nat_lt}
 use Rattle.std.proofs.lemmas.Bool.Decides.{nat_tests}
 use Rattle.mi_tree.specs.declared.answers.Look.{Look}
 use Rattle.mi_world.specs.View.{View}
@@ -31,12 +31,12 @@ module _ (op : Post) (v w : View) (look : Look) (ready : Ready op v) (state : op
       let small : v.least < op.level = omega (arith, k.later.least, k.tells.least_height, h) in
       grind (arith, nat_tests)
 
-  pub looks_wide : look.height < op.level → w.fresh ≡ false → Turned op v More (record { level = op.level; key = op.key; child = op.child; state = Widening; waiting = op.waiting; root = Some look.root }) w
+  pub looks_wide : look.height < op.level → is_some w.fresh ≡ false → Turned op v More (record { level = op.level; key = op.key; child = op.child; state = Widening; waiting = op.waiting; root = Some look.root }) w
   looks_wide h f = goes_on op v w Looking Widening (Some look.root) ready state k.later k.same.work k.same.owes root f (rw (← k.tells.height_is) h, f)
       (λ _. falls_by v w _ _ k.later k.same.fresh (omega (arith, four h)))
       (ap Some k.tells.root_is, inr (rw (← k.tells.height_is) h))
 
-  pub looks_grown : look.height < op.level → w.fresh ≡ true → Turned op v More (record { level = op.level; key = op.key; child = op.child; state = Growing; waiting = op.waiting; root = Some look.root }) w
+  pub looks_grown : look.height < op.level → is_some w.fresh ≡ true → Turned op v More (record { level = op.level; key = op.key; child = op.child; state = Growing; waiting = op.waiting; root = Some look.root }) w
   looks_grown h f = goes_on op v w Looking Growing (Some look.root) ready state k.later k.same.work k.same.owes root f tt
       (λ _. falls_by v w _ _ k.later k.same.fresh (omega (arith, four h)))
       (ap Some k.tells.root_is, inr (rw (← k.tells.height_is) h))

@@ -1,5 +1,5 @@
 -- Walks and posts while others act.
-use Rattle.std.proofs.Common.{◌≡◌, ℕ, ◌≤◌, ◌∙◌, refl, arith}
+use Rattle.std.proofs.Common.{◌≡◌, ℕ, ◌≤◌, ◌∙◌, refl, arith, is_some, ap}
 use Rattle.mi_world.specs.View.{View, Others}
 use Rattle.mi_blink.specs.declared.post.Post.{Post}
 use Rattle.mi_blink.specs.declared.post.PostState.{PostState}
@@ -15,10 +15,10 @@ use Rattle.mi_blink.proofs.PostLemmas.{waits_keep}
 state_stays : (s : PostState) (level key : ℕ) (v w : View) → Others v w → StateIsReady s level key v → StateIsReady s level key w
 state_stays Looking level key v w o h = tt
 state_stays (Posting p) level key v w o h = stands_keeps v w p level key o.later h
-state_stays (Allotting p) level key v w o h = (reached_keeps v w p level key o.later h.0, o.same.fresh ∙ h.1)
-state_stays (Halving p) level key v w o h = (reached_keeps v w p level key o.later h.0, o.same.fresh ∙ h.1)
-state_stays Widening level key v w o h = o.same.fresh ∙ h
-state_stays Growing level key v w o h = o.same.fresh ∙ h
+state_stays (Allotting p) level key v w o h = (reached_keeps v w p level key o.later h.0, ap is_some o.same.fresh ∙ h.1)
+state_stays (Halving p) level key v w o h = (reached_keeps v w p level key o.later h.0, ap is_some o.same.fresh ∙ h.1)
+state_stays Widening level key v w o h = ap is_some o.same.fresh ∙ h
+state_stays Growing level key v w o h = ap is_some o.same.fresh ∙ h
 state_stays Over level key v w o h = h
 
 pub ready_stays : (op : Post) (v w : View) → Others v w → Ready op v → Ready op w

@@ -1,6 +1,6 @@
 -- The other sections of a post.
-use Rattle.std.proofs.Common.{◌≡◌, ℕ, ◌+◌, ◌*◌, ◌<◌, ◌≤◌, List, [], ◌∷◌, ◌++◌, length, Bool, true, false, ◌||◌, ◌&&◌, ◌==◌, not, IsTrue, cond, refl, sym, ◌∙◌, subst, arith, inl, inr, length-append, nat_lt}
-use Rattle.std.specs.Prelude.{IfSome, ◌⊎◌}
+use Rattle.std.proofs.Common.{◌≡◌, ℕ, ◌+◌, ◌*◌, ◌<◌, ◌≤◌, List, [], ◌∷◌, ◌++◌, length, Bool, true, false, ◌||◌, ◌&&◌, ◌==◌, not, IsTrue, cond, refl, sym, ◌∙◌, subst, arith, inl, inr, length-append, nat_lt, ap}
+use Rattle.std.specs.Prelude.{is_some, IfSome, ◌⊎◌}
 use Rattle.std.proofs.lemmas.Bool.Decides.{nat_tests}
 use Rattle.std.proofs.Math.Nat.{mul-le-mul_right}
 use Rattle.mi_world.specs.View.{View, Later, SameWork}
@@ -95,7 +95,7 @@ module _ (op new : Post) (v w : View) (ready : Ready op v) (l : Later v w) (k : 
     outcome = (e.state_is, less, wants);
   }
 
-  pub ends_left : (limit : ℕ) → Ends op new → wants_page op.state ≡ true → (limit ≡ w.settings.pages) × (w.allotted ≡ limit) × (w.fresh ≡ false) × IsTrue w.told → Turned op v (Left limit) new w
+  pub ends_left : (limit : ℕ) → Ends op new → wants_page op.state ≡ true → (limit ≡ w.settings.pages) × (w.allotted ≡ limit) × (is_some w.fresh ≡ false) × IsTrue w.told → Turned op v (Left limit) new w
   ends_left limit e wants h = record {
     later = l;
     work = k;
@@ -105,7 +105,7 @@ module _ (op new : Post) (v w : View) (ready : Ready op v) (l : Later v w) (k : 
     outcome = (e.state_is, h.0, h.1, h.2, h.3, less, record { wanted = wants; waiting_is = e.waited; fresh = h.2 });
   }
 
-  pub ends_memory : Ends op new → wants_page op.state ≡ true → IsTrue w.lacked × (w.fresh ≡ false) → Turned op v Memory new w
+  pub ends_memory : Ends op new → wants_page op.state ≡ true → IsTrue w.lacked × (is_some w.fresh ≡ false) → Turned op v Memory new w
   ends_memory e wants h = record {
     later = l;
     work = k;
@@ -123,12 +123,12 @@ module _ (op new : Post) (v w : View) (ready : Ready op v) (l : Later v w) (k : 
   pops_done result leads wants (inl r) = subst (λ t. Turned op v t new w) (sym r.1) (resumes r.0 (leads r.0))
   pops_done result leads wants (inr e) = subst (λ t. Turned op v t new w) (sym e.1) (ends_done e.0 wants)
 
-  pub pops_left : (limit : ℕ) (result : PostTurn) → wants_page op.state ≡ true → (limit ≡ w.settings.pages) × (w.allotted ≡ limit) × (w.fresh ≡ false) × IsTrue w.told
+  pub pops_left : (limit : ℕ) (result : PostTurn) → wants_page op.state ≡ true → (limit ≡ w.settings.pages) × (w.allotted ≡ limit) × (is_some w.fresh ≡ false) × IsTrue w.told
       → Pops op (Left limit) result new → Turned op v result new w
   pops_left limit result wants h (inl r) = subst (λ t. Turned op v t new w) (sym r.1) (resumes r.0 (leads_on wants r.0))
   pops_left limit result wants h (inr e) = subst (λ t. Turned op v t new w) (sym e.1) (ends_left limit e.0 wants h)
 
-  pub pops_memory : (result : PostTurn) → wants_page op.state ≡ true → IsTrue w.lacked × (w.fresh ≡ false) → Pops op Memory result new → Turned op v result new w
+  pub pops_memory : (result : PostTurn) → wants_page op.state ≡ true → IsTrue w.lacked × (is_some w.fresh ≡ false) → Pops op Memory result new → Turned op v result new w
   pops_memory result wants h (inl r) = subst (λ t. Turned op v t new w) (sym r.1) (resumes r.0 (leads_on wants r.0))
   pops_memory result wants h (inr e) = subst (λ t. Turned op v t new w) (sym e.1) (ends_memory e.0 wants h)
 
@@ -161,14 +161,14 @@ module _ (op : Post) (v w : View) (page : ℕ) (ready : Ready op v) (state : op.
       (λ _. falls_by v w _ _ k.later k.fresh (omega (arith, right_less v w page q op.level op.key k.answer.1)))
       tt
 
-  pub posts_full : Posts v w page op.level op.key op.child put.PageFull → w.fresh ≡ true
+  pub posts_full : Posts v w page op.level op.key op.child put.PageFull → is_some w.fresh ≡ true
       → Turned op v More (record { level = op.level; key = op.key; child = op.child; state = Halving page; waiting = op.waiting; root = op.root }) w
   posts_full k f = goes_on op v w (Posting page) (Halving page) op.root ready state k.later k.work k.answer.0 (some_root_keeps v w op.root k.later ready.root_is)
       (still k.later k.answer.1, f) tt
       (λ t. falls_by v w _ _ k.later k.fresh (omega (arith, descent_keeps v w page k.later stands.named, full_none (w.full page) (k.answer.2.told_full t))))
       tt
 
-  pub posts_wanting : Posts v w page op.level op.key op.child put.PageFull → w.fresh ≡ false
+  pub posts_wanting : Posts v w page op.level op.key op.child put.PageFull → is_some w.fresh ≡ false
       → Turned op v More (record { level = op.level; key = op.key; child = op.child; state = Allotting page; waiting = op.waiting; root = op.root }) w
   posts_wanting k f = goes_on op v w (Posting page) (Allotting page) op.root ready state k.later k.work k.answer.0 (some_root_keeps v w op.root k.later ready.root_is)
       (still k.later k.answer.1, f) (k.page_is, k.answer.2.many, f)
@@ -181,7 +181,7 @@ module _ (op : Post) (v w : View) (page : ℕ) (ready : Ready op v) (state : op.
 
 -- a page is allotted
 module _ (op : Post) (v w : View) (page : ℕ) (ready : Ready op v) (state : op.state ≡ Allotting page) where
-  wanting : Reached v page op.level op.key × (v.fresh ≡ false)
+  wanting : Reached v page op.level op.key × (is_some v.fresh ≡ false)
   wanting = rw state at ready.state
 
   pub allots : (u : Unit {0}) → Allots v w (Rattle.std.specs.Prelude.Ok u) → Turned op v More (record { level = op.level; key = op.key; child = op.child; state = Halving page; waiting = op.waiting; root = op.root }) w
@@ -191,15 +191,15 @@ module _ (op : Post) (v w : View) (page : ℕ) (ready : Ready op v) (state : op.
       (λ none. k.answer.0)
 
   pub allots_none : (new : Post) (result : PostTurn) (limit : ℕ) → Allots v w (Rattle.std.specs.Prelude.Err (allot.PagesFull limit)) → Pops op (Left limit) result new → Turned op v result new w
-  allots_none new result limit k p = pops_left op new v w ready k.later k.work (budget_stays v w k.later (k.answer.0 ∙ sym wanting.1)) (rest_told op v w k.answer.3)
-      limit result (rw state refl) (k.answer.1, k.answer.2, k.answer.0, k.answer.3) p
+  allots_none new result limit k p = pops_left op new v w ready k.later k.work (budget_stays v w k.later k.answer.0) (rest_told op v w k.answer.3)
+      limit result (rw state refl) (k.answer.1, k.answer.2, ap is_some k.answer.0 ∙ wanting.1, k.answer.3) p
 
   pub allots_memory : (new : Post) (result : PostTurn) → Allots v w (Rattle.std.specs.Prelude.Err allot.Memory) → Pops op Memory result new → Turned op v result new w
-  allots_memory new result k p = pops_memory op new v w ready k.later k.work (budget_stays v w k.later (k.answer.0 ∙ sym wanting.1)) (rest_lacked op v w k.answer.1) result (rw state refl) (k.answer.1, k.answer.0) p
+  allots_memory new result k p = pops_memory op new v w ready k.later k.work (budget_stays v w k.later k.answer.0) (rest_lacked op v w k.answer.1) result (rw state refl) (k.answer.1, ap is_some k.answer.0 ∙ wanting.1) p
 
 -- a page is allotted for a new root
 module _ (op : Post) (v w : View) (ready : Ready op v) (state : op.state ≡ Widening) where
-  bare : v.fresh ≡ false
+  bare : is_some v.fresh ≡ false
   bare = rw state at ready.state
 
   pub widens : (u : Unit {0}) → Allots v w (Rattle.std.specs.Prelude.Ok u) → Turned op v More (record { level = op.level; key = op.key; child = op.child; state = Growing; waiting = op.waiting; root = op.root }) w
@@ -208,11 +208,11 @@ module _ (op : Post) (v w : View) (ready : Ready op v) (state : op.state ≡ Wid
       (λ none. k.answer.0)
 
   pub widens_none : (new : Post) (result : PostTurn) (limit : ℕ) → Allots v w (Rattle.std.specs.Prelude.Err (allot.PagesFull limit)) → Pops op (Left limit) result new → Turned op v result new w
-  widens_none new result limit k p = pops_left op new v w ready k.later k.work (budget_stays v w k.later (k.answer.0 ∙ sym bare)) (rest_told op v w k.answer.3)
-      limit result (rw state refl) (k.answer.1, k.answer.2, k.answer.0, k.answer.3) p
+  widens_none new result limit k p = pops_left op new v w ready k.later k.work (budget_stays v w k.later k.answer.0) (rest_told op v w k.answer.3)
+      limit result (rw state refl) (k.answer.1, k.answer.2, ap is_some k.answer.0 ∙ bare, k.answer.3) p
 
   pub widens_memory : (new : Post) (result : PostTurn) → Allots v w (Rattle.std.specs.Prelude.Err allot.Memory) → Pops op Memory result new → Turned op v result new w
-  widens_memory new result k p = pops_memory op new v w ready k.later k.work (budget_stays v w k.later (k.answer.0 ∙ sym bare)) (rest_lacked op v w k.answer.1) result (rw state refl) (k.answer.1, k.answer.0) p
+  widens_memory new result k p = pops_memory op new v w ready k.later k.work (budget_stays v w k.later k.answer.0) (rest_lacked op v w k.answer.1) result (rw state refl) (k.answer.1, ap is_some k.answer.0 ∙ bare) p
 
 two : (b : Bool) → b ≡ false → cond b 4 2 ≤ 2
 two true e = cc
@@ -220,7 +220,7 @@ two false e = omega arith
 
 -- a new root
 module _ (op : Post) (v w : View) (ready : Ready op v) (state : op.state ≡ Growing) where
-  held : v.fresh ≡ true
+  held : is_some v.fresh ≡ true
   held = rw state at ready.state
 
   pub grows : (new : Post) (result : PostTurn) → Grew v w op.level op.child true → Pops op Done result new → Turned op v result new w
@@ -232,7 +232,7 @@ module _ (op : Post) (v w : View) (ready : Ready op v) (state : op.state ≡ Gro
   grows_not k =
       let high : nat_lt w.least op.level ≡ false = let h = k.answer.3 in grind (arith, nat_tests) in
       goes_on op v w Growing Looking op.root ready state k.later k.work k.answer.2 (some_root_keeps v w op.root k.later ready.root_is) tt tt
-      (λ _. falls_by v w _ _ k.later (k.answer.1 ∙ sym held) (omega (arith, two (nat_lt w.least op.level) high)))
+      (λ _. falls_by v w _ _ k.later k.answer.1 (omega (arith, two (nat_lt w.least op.level) high)))
       tt
 
 owe : (a b s t u : Bool) → (IsTrue a → IsTrue (s || (t || u))) → IsTrue (a || b) → IsTrue (s || (b || (u || t)))
@@ -251,13 +251,13 @@ two_full false e = omega arith
 
 -- a page is halved
 module _ (op : Post) (v w : View) (page : ℕ) (ready : Ready op v) (state : op.state ≡ Halving page) where
-  full_page : Reached v page op.level op.key × (v.fresh ≡ true)
+  full_page : Reached v page op.level op.key × (is_some v.fresh ≡ true)
   full_page = rw state at ready.state
 
   pub halves_not : PartsPage v w page part.Roomy → Turned op v More (record { level = op.level; key = op.key; child = op.child; state = Posting page; waiting = op.waiting; root = op.root }) w
   halves_not k = goes_on op v w (Halving page) (Posting page) op.root ready state k.later k.work k.answer.1 (some_root_keeps v w op.root k.later ready.root_is)
       (stands_at w page op.level op.key (reached_keeps v w page op.level op.key k.later full_page.0)) tt
-      (λ t. falls_by v w _ _ k.later (k.answer.0 ∙ sym full_page.1)
+      (λ t. falls_by v w _ _ k.later k.answer.0
       (omega (arith, descent_keeps v w page k.later full_page.0.named, two_full (v.full page) (k.answer.3 (rw (← k.later.tells_full) t)))))
       tt
 

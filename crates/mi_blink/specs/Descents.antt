@@ -1,5 +1,5 @@
 -- Where a descent stands, and how far it is from its end.
-use Rattle.std.specs.Prelude.{◌≡◌, ◌≤◌, ◌<◌, ◌+◌, ◌-◌, ◌*◌, ◌^◌, ℕ, IsTrue, cond, min, ◌⊎◌}
+use Rattle.std.specs.Prelude.{is_some, ◌≡◌, ◌≤◌, ◌<◌, ◌+◌, ◌-◌, ◌*◌, ◌^◌, ℕ, IsTrue, cond, min, ◌⊎◌}
 use Rattle.mi_world.specs.View.{View}
 
 -- a root that a look gave
@@ -36,7 +36,7 @@ longest = 5 * (keys + 1) + keys
 
 -- how often a page may still be allotted or a fresh page be used, at most
 abbrev pub budget : View → ℕ
-budget v = 2 * (v.settings.pages - v.allotted) + cond v.fresh 1 0
+budget v = 2 * (v.settings.pages - v.allotted) + cond (is_some v.fresh) 1 0
 
 -- less is left: of the budget, or of the number beside it while the budget is no greater
 abbrev pub Falls : View → ℕ → View → ℕ → Type 0

@@ -1,5 +1,5 @@
 -- A post between its sections, and what a section of it does.
-use Rattle.std.specs.Prelude.{◌≡◌, ◌≤◌, ◌<◌, ◌+◌, ◌*◌, ◌==◌, ◌||◌, ◌∷◌, ◌++◌, [], ℕ, List, Some, None, Bool, true, false, IsTrue, IfSome, length, cond, nat_lt, ◌⊎◌}
+use Rattle.std.specs.Prelude.{is_some, ◌≡◌, ◌≤◌, ◌<◌, ◌+◌, ◌*◌, ◌==◌, ◌||◌, ◌∷◌, ◌++◌, [], ℕ, List, Some, None, Bool, true, false, IsTrue, IfSome, length, cond, nat_lt, ◌⊎◌}
 use Rattle.std.specs.List.{list_any}
 use Rattle.mi_blink.specs.declared.post.Post.{Post}
 use Rattle.mi_blink.specs.declared.post.PostState.{PostState}
@@ -72,10 +72,10 @@ EachWaits v n (w ∷ ws) = WaitFits v n w × EachWaits v (n + 1) ws
 abbrev pub StateIsReady : PostState → ℕ → ℕ → View → Type 0
 StateIsReady Looking level key v = Unit {0}
 StateIsReady (Posting page) level key v = Stands v page level key
-StateIsReady (Allotting page) level key v = Reached v page level key × (v.fresh ≡ false)
-StateIsReady (Halving page) level key v = Reached v page level key × (v.fresh ≡ true)
-StateIsReady Widening level key v = v.fresh ≡ false
-StateIsReady Growing level key v = v.fresh ≡ true
+StateIsReady (Allotting page) level key v = Reached v page level key × (is_some v.fresh ≡ false)
+StateIsReady (Halving page) level key v = Reached v page level key × (is_some v.fresh ≡ true)
+StateIsReady Widening level key v = is_some v.fresh ≡ false
+StateIsReady Growing level key v = is_some v.fresh ≡ true
 StateIsReady Over level key v = ⊥
 
 -- what a post needs of its actor between two sections
@@ -129,9 +129,9 @@ left op v = left_in op.state op.level v + left_waiting v op.waiting.items
 abbrev pub Cause : PostState → ℕ → View → Type 0
 Cause Looking level w = Unit {0}
 Cause (Posting page) level w = Unit {0}
-Cause (Allotting page) level w = (w.page ≡ page) × (w.items ≡ 32) × (w.fresh ≡ false)
+Cause (Allotting page) level w = (w.page ≡ page) × (w.items ≡ 32) × (is_some w.fresh ≡ false)
 Cause (Halving page) level w = Unit {0}
-Cause Widening level w = (w.height < level) × (w.fresh ≡ false)
+Cause Widening level w = (w.height < level) × (is_some w.fresh ≡ false)
 Cause Growing level w = Unit {0}
 Cause Over level w = Unit {0}
 
@@ -146,9 +146,9 @@ wants_page s = false
 abbrev pub Leads : PostState → Post → Post → View → Type 0
 Leads Looking old new w = (new.root ≡ Some w.root) × ((new.state ≡ Posting w.root) ⊎ (w.height < new.level))
 Leads (Posting page) old new w = Unit {0}
-Leads (Allotting page) old new w = old.waiting.items ≡ [] → w.fresh ≡ true
+Leads (Allotting page) old new w = old.waiting.items ≡ [] → is_some w.fresh ≡ true
 Leads (Halving page) old new w = Unit {0}
-Leads Widening old new w = old.waiting.items ≡ [] → w.fresh ≡ true
+Leads Widening old new w = old.waiting.items ≡ [] → is_some w.fresh ≡ true
 Leads Growing old new w = Unit {0}
 Leads Over old new w = ⊥
 
@@ -156,14 +156,14 @@ Leads Over old new w = ⊥
 pub record LacksPage (old : Post) (w : View) : Type 0 where
   pub wanted : wants_page old.state ≡ true
   pub waiting_is : old.waiting.items ≡ []
-  pub fresh : w.fresh ≡ false
+  pub fresh : is_some w.fresh ≡ false
 
 -- what each answer says
 abbrev pub Outcome : Post → View → PostTurn → Post → View → Type 0
 Outcome old v More new w = Ready new w × (IsTrue w.tells_full → Falls v (left old v) w (left new w)) × Leads old.state old new w
 Outcome old v Done new w = (new.state ≡ Over) × (budget w ≤ budget v) × (wants_page old.state ≡ false)
 Outcome old v (Left limit) new w =
-    (new.state ≡ Over) × (limit ≡ w.settings.pages) × (w.allotted ≡ limit) × (w.fresh ≡ false) × IsTrue w.told × (budget w ≤ budget v) × LacksPage old w
+    (new.state ≡ Over) × (limit ≡ w.settings.pages) × (w.allotted ≡ limit) × (is_some w.fresh ≡ false) × IsTrue w.told × (budget w ≤ budget v) × LacksPage old w
 Outcome old v Memory new w = (new.state ≡ Over) × IsTrue w.lacked × (budget w ≤ budget v) × LacksPage old w
 
 -- what a section of a post makes of it and of its actor

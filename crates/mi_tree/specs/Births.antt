@@ -1,6 +1,6 @@
 -- Live objects with the numbers of their inserts, and the leaves that were split.
-use Rattle.std.specs.Prelude.{ℕ, ℤ, ◌+◌, ◌==◌, List, [], ◌∷◌, Bool, false, not, Option}
-use Rattle.std.specs.List.{filter, find, list_any}
+use Rattle.std.specs.Prelude.{ℕ, ℤ, ◌+◌, ◌==◌, List, [], ◌∷◌, Bool, false, not, Option, Some, None}
+use Rattle.std.specs.List.{filter, filter_map, find, list_any}
 use Rattle.mi_base.specs.declared.records.Update.{Update}
 use Rattle.mi_base.specs.declared.records.Update.TheVariants.{Insert, Delete}
 use Rattle.mi_base.specs.declared.records.LogEvent.{LogEvent}
@@ -43,3 +43,11 @@ is_split_of p (Split q) = same_cell p q
 -- a log has the split of this leaf
 abbrev pub was_split : List ℕ → List LogEvent → Bool
 was_split p log = list_any (is_split_of p) log
+
+abbrev pub split_in : LogEvent → Option (List ℕ)
+split_in (Made session op u) = None
+split_in (Split p) = Some p
+
+-- the leaves that were split in a log, in the order of their splits
+abbrev pub splits_in : List LogEvent → List (List ℕ)
+splits_in log = filter_map split_in log

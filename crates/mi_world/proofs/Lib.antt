@@ -1,2 +1,1 @@
-pub mod RetiredLemmas
 pub mod ViewLemmas

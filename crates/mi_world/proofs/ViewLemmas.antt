@@ -29,6 +29,7 @@ later_none v = record {
   least = omega arith;
   tells_full = refl;
   allotted = omega arith;
+  given = omega arith;
 }
 
 pub later_later : (u v w : View) → Later u v → Later v w → Later u w
@@ -45,6 +46,7 @@ later_later u v w a b = record {
   least = omega (arith, a.least, b.least);
   tells_full = b.tells_full ∙ a.tells_full;
   allotted = omega (arith, a.allotted, b.allotted);
+  given = omega (arith, a.given, b.given);
 }
 
 -- others' sections one after another

@@ -1,5 +1,5 @@
 -- Sections of the board that change no leaf's claim, and the splitter's next work.
-use Rattle.std.specs.Prelude.{◌≡◌, ◌≢◌, ◌≤◌, ◌<◌, ◌+◌, ◌==◌, ◌&&◌, ◌||◌, ◌∷◌, [], ℕ, List, Option, Some, None, Bool, true, false, IsTrue, length, not, is_some, Result, Ok, Err}
+use Rattle.std.specs.Prelude.{◌≡◌, ◌≢◌, ◌≤◌, ◌<◌, ◌+◌, ◌==◌, ◌&&◌, ◌||◌, ◌∷◌, [], ℕ, List, Option, Some, None, Bool, true, false, IsTrue, length, not, is_some, Result, Ok, Err, IsSome, drop, ◌-◌}
 use Rattle.std.specs.List.{find}
 use Rattle.mi_base.specs.declared.refusals.NoMemory.{NoMemory}
 use Rattle.mi_base.specs.History.{updates_of, end_of, at_position}
@@ -11,10 +11,9 @@ use Rattle.mi_tree.specs.declared.answers.ReserveRefusal.TheVariants as reserve
 use Rattle.mi_tree.specs.declared.answers.Work.{Work}
 use Rattle.mi_tree.specs.declared.answers.Work.TheVariants as work
 use Rattle.mi_tree.specs.declared.outcomes.Leaf.{Leaf}
-use Rattle.mi_tree.specs.Births.{was_split}
+use Rattle.mi_tree.specs.Births.{was_split, splits_in}
 use Rattle.mi_tree.specs.Counting.{is_wanted}
 use Rattle.mi_tree.specs.Legal.{cells_of}
-use Rattle.mi_world.specs.Retired.{were_split_in_order}
 use Rattle.mi_world.specs.Shown.{least_key}
 use Rattle.mi_world.specs.View.{View, Later, SameOwn, SameUpdate, SameLeaf, SameSweep, SameSplit, SameFlags, SameActors, SamePage, SameTry, SeesBoard, SameWork, SameApart, IsFloor}
 
@@ -34,6 +33,7 @@ pub record Tells (new : View) (look : Look) : Type 0 where
 pub record Looks (old new : View) (look : Look) : Type 0 where
   pub later : Later old new
   pub lacked : new.lacked ≡ old.lacked
+  pub told : new.told ≡ old.told
   pub same : SameOwn old new
   pub board : SeesBoard new
   pub page : SamePage old new
@@ -50,6 +50,7 @@ ReserveAnswer old new (Err reserve.Memory) = (new.reserved ≡ old.reserved) × 
 pub record Reserves (old new : View) (result : Result Look ReserveRefusal) : Type 0 where
   pub later : Later old new
   pub lacked : new.lacked ≡ old.lacked
+  pub told : new.told ≡ old.told
   pub own : new.own ≡ old.own
   pub shard : new.shard ≡ old.shard
   pub records : new.records ≡ old.records
@@ -70,6 +71,7 @@ PinAnswer old new (Err e) = (new.pin ≡ None) × (new.floor ≡ old.floor)
 pub record Pins (old new : View) (result : Result Look NoMemory) : Type 0 where
   pub later : Later old new
   pub lacked : new.lacked ≡ old.lacked
+  pub told : new.told ≡ old.told
   pub update : SameUpdate old new
   pub leaf : SameLeaf old new
   pub sweep : SameSweep old new
@@ -86,6 +88,7 @@ pub record Pins (old new : View) (result : Result Look NoMemory) : Type 0 where
 pub record Unpins (old new : View) : Type 0 where
   pub later : Later old new
   pub lacked : new.lacked ≡ old.lacked
+  pub told : new.told ≡ old.told
   pub update : SameUpdate old new
   pub leaf : SameLeaf old new
   pub sweep : SameSweep old new
@@ -102,10 +105,10 @@ pub record Unpins (old new : View) : Type 0 where
 
 -- A page more is allotted and in hand, or all are allotted already, or memory is wanted.
 abbrev pub AllotAnswer : View → View → Result (Unit {0}) AllotRefusal → Type 0
-AllotAnswer old new (Ok _) = (new.fresh ≡ true) × (old.allotted < new.allotted) × (new.lacked ≡ old.lacked)
+AllotAnswer old new (Ok _) = IsSome new.fresh × (old.allotted < new.allotted) × (new.lacked ≡ old.lacked)
 AllotAnswer old new (Err (allot.PagesFull limit)) =
-    (new.fresh ≡ false) × (limit ≡ new.settings.pages) × (new.allotted ≡ limit) × IsTrue new.told × (new.lacked ≡ old.lacked)
-AllotAnswer old new (Err allot.Memory) = (new.fresh ≡ false) × IsTrue new.lacked
+    (new.fresh ≡ old.fresh) × (limit ≡ new.settings.pages) × (new.allotted ≡ limit) × IsTrue new.told × (new.lacked ≡ old.lacked)
+AllotAnswer old new (Err allot.Memory) = (new.fresh ≡ old.fresh) × IsTrue new.lacked × (new.told ≡ old.told)
 
 -- where it is told, full pages stay full
 pub record Allots (old new : View) (result : Result (Unit {0}) AllotRefusal) : Type 0 where
@@ -130,12 +133,14 @@ owing child owes p = owes p || (p == child)
 -- The fresh page becomes the root of this level exactly where the root was of the level below, and then the child's route is owed no more.
 -- Else the root is of this level at least, now and later.
 abbrev pub GrowAnswer : View → View → ℕ → ℕ → Bool → Type 0
-GrowAnswer old new level child true = (new.height ≡ level) × (1 ≤ level) × (new.fresh ≡ false) × (new.owes ≡ paying child old.owes)
-GrowAnswer old new level child false = (new.height + 1 ≢ level) × (new.fresh ≡ true) × (new.owes ≡ old.owes) × (level ≤ new.least)
+GrowAnswer old new level child true =
+    (new.height ≡ level) × (1 ≤ level) × (is_some new.fresh ≡ false) × (new.owes ≡ paying child old.owes) × (old.fresh ≡ Some new.root)
+GrowAnswer old new level child false = (new.height + 1 ≢ level) × (new.fresh ≡ old.fresh) × (new.owes ≡ old.owes) × (level ≤ new.least)
 
 pub record Grew (old new : View) (level child : ℕ) (result : Bool) : Type 0 where
   pub later : Later old new
   pub lacked : new.lacked ≡ old.lacked
+  pub told : new.told ≡ old.told
   pub work : SameWork old new
   pub floor : new.floor ≡ old.floor
   pub board : SeesBoard new
@@ -162,17 +167,18 @@ pub record FirstFree (new : View) (leaf : Leaf) : Type 0 where
   pub others : (p : List ℕ) → p ≢ leaf.prefix → before p ≡ new.holder p
   pub first : find (is_free new before) (cells_of new.settings new.seen) ≡ Some leaf
 
--- the leaf that was split first, before it was taken off the list; the floor has its split
-pub record FirstRetired (new : View) (prefix : List ℕ) : Type 0 where
-  pub order : IsTrue (were_split_in_order (prefix ∷ new.retired) new.seen)
+-- the leaf that was split first of those that were not given, before it was taken off the list; the floor has its split
+pub record FirstRetired (old new : View) (prefix : List ℕ) : Type 0 where
+  pub one_more : old.given < new.given
+  pub was_first : prefix ∷ new.retired ≡ drop (new.given - 1) (splits_in new.seen)
   pub below : IsTrue (is_below_floor new prefix)
 
 -- The leaf that was split first is given to be swept, if the floor has its split; else the first free leaf to be split; else nothing.
 abbrev pub WorkAnswer : View → View → Work → Type 0
 WorkAnswer old new (work.Sweep prefix) =
-    FirstRetired new prefix × (new.sweep ≡ Some prefix) × (new.swept ≡ least_key new.settings prefix) × SameLeaf old new
+    FirstRetired old new prefix × (new.sweep ≡ Some prefix) × (new.swept ≡ least_key new.settings prefix) × SameLeaf old new
 WorkAnswer old new (work.Split leaf) =
-    (first_may_be_swept new new.retired ≡ false) × FirstFree new leaf × (new.leaf ≡ Some leaf.prefix) × (new.wanted ≡ true) × SameSweep old new
+    (first_may_be_swept new new.retired ≡ false) × FirstFree new leaf × (new.leaf ≡ Some leaf.prefix) × (new.wanted ≡ true) × SameSweep old new × (new.splitting ≡ false)
 WorkAnswer old new work.Idle =
     (first_may_be_swept new new.retired ≡ false) × (find (is_free new new.holder) (cells_of new.settings new.seen) ≡ None) × SameLeaf old new
     × SameSweep old new
@@ -180,6 +186,7 @@ WorkAnswer old new work.Idle =
 pub record GivesWork (old new : View) (result : Work) : Type 0 where
   pub later : Later old new
   pub lacked : new.lacked ≡ old.lacked
+  pub told : new.told ≡ old.told
   pub update : SameUpdate old new
   pub split : SameSplit old new
   pub flags : SameFlags old new

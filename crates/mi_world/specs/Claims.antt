@@ -9,7 +9,7 @@ use Rattle.mi_tree.specs.Legal.{cells_of}
 use Rattle.mi_world.specs.declared.answers.ShardClaim.{ShardClaim}
 use Rattle.mi_world.specs.declared.answers.ShardClaim.TheVariants.{Taken as ShardTaken, Held as ShardHeld}
 use Rattle.mi_world.specs.Shown.{grid_under}
-use Rattle.mi_world.specs.View.{View, Later, SameUpdate, SameLeaf, SameBoard, SamePage, SameTry, SeesBoard, IsOther, shard_of, SameApart}
+use Rattle.mi_world.specs.View.{View, Later, SameUpdate, SameLeaf, SameBoard, SamePage, SameTry, SeesBoard, IsOther, shard_of, SameApart, prefix_or}
 
 -- a leaf is claimed, and it is that of the permutation
 abbrev pub holds_leaf_of : List ℕ → Option (List ℕ) → Bool
@@ -52,7 +52,7 @@ pub record ReleasesShard (old new : View) : Type 0 where
 abbrev pub LeafAnswer : View → View → List ℕ → LeafClaim → Type 0
 LeafAnswer old new perm (LeafTaken leaf) =
     (leaves_beginning perm (cells_of new.settings new.seen) ≡ leaf ∷ []) × (begins leaf.prefix perm ≡ true) × (new.leaf ≡ Some leaf.prefix)
-    × (new.wanted ≡ is_wanted new.settings.levels new.settings.cell leaf)
+    × (new.wanted ≡ is_wanted new.settings.levels new.settings.cell leaf) × (new.splitting ≡ false)
 LeafAnswer old new perm (LeafHeld by) =
     (new.leaf ≡ None) × (new.holder (leaf_of (grid_under new.settings) new.seen perm) ≡ Some by) × (by ≢ new.actor)
     × (begins (leaf_of (grid_under new.settings) new.seen perm) perm ≡ true)
@@ -60,6 +60,7 @@ LeafAnswer old new perm (LeafHeld by) =
 pub record ClaimsLeaf (old new : View) (perm : List ℕ) (result : LeafClaim) : Type 0 where
   pub later : Later old new
   pub lacked : new.lacked ≡ old.lacked
+  pub told : new.told ≡ old.told
   pub update : SameUpdate old new
   pub apart : SameApart old new
   pub floor : new.floor ≡ old.floor
@@ -73,8 +74,10 @@ pub record ClaimsLeaf (old new : View) (perm : List ℕ) (result : LeafClaim) : 
 pub record ReleasesLeaf (old new : View) : Type 0 where
   pub later : Later old new
   pub lacked : new.lacked ≡ old.lacked
+  pub told : new.told ≡ old.told
   pub update : SameUpdate old new
   pub leaf : new.leaf ≡ None
+  pub freed : new.holder (prefix_or old.leaf) ≡ None
   pub apart : SameApart old new
   pub floor : new.floor ≡ old.floor
   pub fresh : new.fresh ≡ old.fresh

@@ -1,5 +1,6 @@
 -- Actors that are made from one another, and their ends.
-use Rattle.std.specs.Prelude.{◌≡◌, ◌≢◌, ◌≤◌, ◌∷◌, ◌++◌, ◌||◌, [], ℕ, None, false, IsTrue}
+use Rattle.std.specs.Prelude.{◌≡◌, ◌≤◌, ◌∷◌, ◌++◌, ◌||◌, [], ℕ, None, false, IsTrue, ◌<◌, ◌⊎◌, true}
+use Rattle.mi_base.specs.Prefixes.{has}
 use Rattle.mi_tree.specs.Growing.{Grows}
 use Rattle.mi_world.specs.View.{View, Later, SameOwn, SameUpdate, SameLeaf, SameSweep, SameSplit, SameFlags, SameNote, SamePage, SameTry, SeesBoard}
 
@@ -19,15 +20,15 @@ pub record KnowsPages (by of : View) : Type 0 where
 
 -- a new actor, which has seen what its maker saw and has nothing of its own
 pub record IsForked (maker child : View) : Type 0 where
-  pub other : child.actor ≢ maker.actor
   pub settings : child.settings ≡ maker.settings
+  pub tells_full : child.tells_full ≡ maker.tells_full
   pub seen : child.seen ≡ maker.seen
   pub floor : child.floor ≡ maker.floor
   pub own : child.own ≡ []
   pub idle : ClaimsNothing child
   pub unsplit : child.splitting ≡ false
   pub reserved : child.reserved ≡ false
-  pub fresh : child.fresh ≡ false
+  pub fresh : child.fresh ≡ None
   pub owes : (p : ℕ) → child.owes p ≡ false
   pub undone : child.undone ≡ false
   pub early : child.early ≡ false
@@ -41,6 +42,7 @@ pub record IsForked (maker child : View) : Type 0 where
 pub record Forked (old new child : View) : Type 0 where
   pub later : Later old new
   pub lacked : new.lacked ≡ old.lacked
+  pub told : new.told ≡ old.told
   pub update : SameUpdate old new
   pub leaf : SameLeaf old new
   pub sweep : SameSweep old new
@@ -56,11 +58,15 @@ pub record Forked (old new child : View) : Type 0 where
   pub absorbed : new.absorbed ≡ old.absorbed
   pub forked : new.forked ≡ old.forked ++ child.actor ∷ []
   pub child_is : IsForked new child
+  -- its number is greater than its maker's and than those of all that this one made before
+  pub newer : old.actor < child.actor
+  pub later_fork : (n : ℕ) → has n old.forked ≡ true → n < child.actor
 
 -- no actor was made
 pub record NotForked (old new : View) : Type 0 where
   pub later : Later old new
   pub lacked : new.lacked ≡ old.lacked
+  pub told : new.told ≡ old.told
   pub same : SameOwn old new
   pub floor : new.floor ≡ old.floor
   pub page : SamePage old new
@@ -70,6 +76,7 @@ pub record NotForked (old new : View) : Type 0 where
 pub record Absorbs (old other new : View) : Type 0 where
   pub later : Later old new
   pub others_log : Grows other.seen new.seen
+  pub seen : (new.seen ≡ old.seen) ⊎ (new.seen ≡ other.seen)
   pub update : SameUpdate old new
   pub leaf : SameLeaf old new
   pub sweep : SameSweep old new

@@ -1,5 +1,5 @@
 -- Sections of pages: where a descent goes on, what a visit offers, commits, halves and routes.
-use Rattle.std.specs.Prelude.{◌≡◌, ◌≢◌, ◌≤◌, ◌<◌, ◌+◌, ◌&&◌, ◌∷◌, ◌^◌, ◌++◌, [], ℕ, ℤ, List, Option, Some, None, Bool, true, false, IsTrue, length, unwrap_or}
+use Rattle.std.specs.Prelude.{◌≡◌, ◌≢◌, ◌≤◌, ◌<◌, ◌+◌, ◌&&◌, ◌∷◌, ◌^◌, ◌++◌, [], ℕ, ℤ, List, Option, Some, None, Bool, true, false, IsTrue, length, unwrap_or, is_some}
 use Rattle.std.specs.List.{list_any}
 use Rattle.mi_base.specs.declared.records.LogEvent.{LogEvent}
 use Rattle.mi_base.specs.declared.records.LogEvent.TheVariants.{Update as Made}
@@ -60,15 +60,17 @@ pub record IsReached (old new : View) (page sought key : ℕ) : Type 0 where
   pub reached : old.level page ≡ sought
   pub below_high : IsBelow key new.high
 
--- the page has 32 items
-pub record IsFullPage (new : View) (page : ℕ) : Type 0 where
+-- the page has 32 items, and had them before
+pub record IsFullPage (old new : View) (page : ℕ) : Type 0 where
   pub many : new.items ≡ 32
+  pub was_full : IsTrue old.tells_full → IsTrue (old.full page)
   pub told_full : IsTrue new.tells_full → IsTrue (new.full page)
 
 -- a page that had fewer than 32 items has taken one, or had it already
-pub record HasTaken (new : View) : Type 0 where
+pub record HasTaken (old new : View) (page : ℕ) : Type 0 where
   pub some : 1 ≤ new.items
   pub few : new.items ≤ 32
+  pub was_roomy : IsTrue old.tells_full → old.full page ≡ false
 
 -- the page goes on at its right sibling where that begins no later than this key, else not at all
 abbrev pub ReadsTo : View → View → ℕ → ℕ → Option ℕ → Type 0
@@ -178,19 +180,29 @@ InsertAnswer old new page op id vector dists (commit.Full limit) =
 InsertAnswer old new page op id vector dists commit.Crowded =
     SameUpdate old new × IsReached old new page 0 (insert_key new dists id (next_number new)) × HasRoom new × IsTrue (is_crowded_leaf new.settings new.seen new.leaf) × (new.wanted ≡ true)
 InsertAnswer old new page op id vector dists commit.PageFull =
-    NotEntered old new × IsReached old new page 0 (insert_key new dists id (next_number new)) × HasRoom new × (is_crowded_leaf new.settings new.seen new.leaf ≡ false) × IsFullPage new page
+    NotEntered old new × IsReached old new page 0 (insert_key new dists id (next_number new)) × HasRoom new × (is_crowded_leaf new.settings new.seen new.leaf ≡ false) × IsFullPage old new page
 InsertAnswer old new page op id vector dists (commit.Done number) =
-    Enters old new op id (update.Insert id vector) false number × IsReached old new page 0 (insert_key new dists id number) × Recorded new id number dists × HasTaken new
+    Enters old new op id (update.Insert id vector) false number × IsReached old new page 0 (insert_key new dists id number) × Recorded new id number dists × HasTaken old new page
+
+-- an insert sees the board where its page is a leaf page
+abbrev pub InsertSees : View → View → Commit → Type 0
+InsertSees old new (commit.Down p) = SameBoard old new
+InsertSees old new (commit.Right p) = SeesBoard new
+InsertSees old new (commit.Full limit) = SeesBoard new
+InsertSees old new commit.Crowded = SeesBoard new
+InsertSees old new commit.PageFull = SeesBoard new
+InsertSees old new (commit.Done number) = SeesBoard new
 
 pub record CommitsInsert (old new : View) (page op id : ℕ) (vector : List ℤ) (dists : List ℕ) (result : Commit) : Type 0 where
   pub later : Later old new
   pub lacked : new.lacked ≡ old.lacked
+  pub told : new.told ≡ old.told
   pub leaf : new.leaf ≡ old.leaf
   pub apart : SameApart old new
   pub floor : new.floor ≡ old.floor
   pub fresh : new.fresh ≡ old.fresh
   pub owes : new.owes ≡ old.owes
-  pub board : SeesBoard new
+  pub board : InsertSees old new result
   pub tries : SameTry old new
   pub page_is : new.page ≡ page
   pub answer : InsertAnswer old new page op id vector dists result
@@ -233,15 +245,25 @@ DeleteAnswer old new page op id commit.PageFull = ⊥
 DeleteAnswer old new page op id (commit.Done number) =
     Enters old new op id (update.Delete id) true number × IsReached old new page 0 (delete_key old id) × (new.records id ≡ None)
 
+-- a delete sees the board where its key lies in the page
+abbrev pub DeleteSees : View → View → Commit → Type 0
+DeleteSees old new (commit.Down p) = SameBoard old new
+DeleteSees old new (commit.Right p) = SameBoard old new
+DeleteSees old new (commit.Full limit) = SeesBoard new
+DeleteSees old new commit.Crowded = ⊥
+DeleteSees old new commit.PageFull = ⊥
+DeleteSees old new (commit.Done number) = SeesBoard new
+
 pub record CommitsDelete (old new : View) (page op id : ℕ) (result : Commit) : Type 0 where
   pub later : Later old new
   pub lacked : new.lacked ≡ old.lacked
+  pub told : new.told ≡ old.told
   pub leaf : new.leaf ≡ old.leaf
   pub apart : SameApart old new
   pub floor : new.floor ≡ old.floor
   pub fresh : new.fresh ≡ old.fresh
   pub owes : new.owes ≡ old.owes
-  pub board : SeesBoard new
+  pub board : DeleteSees old new result
   pub tries : SameTry old new
   pub page_is : new.page ≡ page
   pub answer : DeleteAnswer old new page op id result
@@ -251,9 +273,9 @@ pub record CommitsDelete (old new : View) (page op id : ℕ) (result : Commit) :
 -- Where the page has 32 items, its upper 16 are on the fresh page, whose route is owed. Else the fresh page stays in hand.
 abbrev pub PartAnswer : View → View → ℕ → Parted → Type 0
 PartAnswer old new page (HasParted key child) =
-    (new.fresh ≡ false) × (new.owes ≡ owing child old.owes) × IsTrue (new.named child) × (new.level child ≡ old.level page) × (new.low child ≡ key)
-    × (old.low page < key) × (new.high ≡ Some key) × (new.items ≡ 16)
-PartAnswer old new page Roomy = (new.fresh ≡ true) × (new.owes ≡ old.owes) × (new.items < 32) × (IsTrue old.tells_full → old.full page ≡ false)
+    (is_some new.fresh ≡ false) × (new.owes ≡ owing child old.owes) × IsTrue (new.named child) × (new.level child ≡ old.level page) × (new.low child ≡ key)
+    × (old.low page < key) × (new.high ≡ Some key) × (new.items ≡ 16) × (old.fresh ≡ Some child) × (IsTrue old.tells_full → IsTrue (old.full page))
+PartAnswer old new page Roomy = (new.fresh ≡ old.fresh) × (new.owes ≡ old.owes) × (new.items < 32) × (IsTrue old.tells_full → old.full page ≡ false)
 
 pub record PartsPage (old new : View) (page : ℕ) (result : Parted) : Type 0 where
   pub later : Later old new
@@ -280,8 +302,8 @@ pub record MayPost (v : View) (page level key : ℕ) : Type 0 where
 abbrev pub PostAnswer : View → View → ℕ → ℕ → ℕ → ℕ → Put → Type 0
 PostAnswer old new page level key child (put.Down p) = (new.owes ≡ old.owes) × GoesDown old new page p level key
 PostAnswer old new page level key child (put.Right p) = (new.owes ≡ old.owes) × GoesRight old new page p level key
-PostAnswer old new page level key child put.PageFull = (new.owes ≡ old.owes) × IsReached old new page level key × IsFullPage new page
-PostAnswer old new page level key child put.Done = (new.owes ≡ paying child old.owes) × IsReached old new page level key × HasTaken new
+PostAnswer old new page level key child put.PageFull = (new.owes ≡ old.owes) × IsReached old new page level key × IsFullPage old new page
+PostAnswer old new page level key child put.Done = (new.owes ≡ paying child old.owes) × IsReached old new page level key × HasTaken old new page
 
 pub record Posts (old new : View) (page level key child : ℕ) (result : Put) : Type 0 where
   pub later : Later old new

@@ -1,12 +1,14 @@
 -- Sections of a split and of a sweep.
-use Rattle.std.specs.Prelude.{◌≡◌, ◌≤◌, ◌<◌, ◌+◌, ◌-◌, ◌∷◌, ◌++◌, ◌||◌, [], ℕ, List, Option, Some, None, Bool, true, false, IsTrue, length, cond, not, slice_index, Result, Ok, Err}
+use Rattle.std.specs.Prelude.{◌≡◌, ◌≤◌, ◌<◌, ◌+◌, ◌-◌, ◌∷◌, ◌++◌, ◌||◌, [], ℕ, List, Option, Some, None, Bool, true, false, IsTrue, length, cond, not, slice_index, Result, Ok, Err, ◌&&◌, ◌==◌}
+use Rattle.std.specs.List.{list_any}
 use Rattle.mi_base.specs.declared.limits.TheConstants.{MAX_UPDATES}
 use Rattle.mi_base.specs.declared.records.LogEvent.{LogEvent}
 use Rattle.mi_base.specs.declared.records.LogEvent.TheVariants.{Split}
 use Rattle.mi_base.specs.declared.records.Position.{Position}
 use Rattle.mi_base.specs.declared.refusals.NoMemory.{NoMemory}
 use Rattle.mi_base.specs.History.{end_of}
-use Rattle.mi_tree.specs.Legal.{MayFollow}
+use Rattle.mi_tree.specs.Cells.{same_cell}
+use Rattle.mi_tree.specs.Legal.{MayFollow, cells_of}
 use Rattle.mi_world.specs.declared.answers.Put.{Put}
 use Rattle.mi_world.specs.declared.answers.Put.TheVariants as put
 use Rattle.mi_world.specs.declared.answers.Visit.{Visit}
@@ -116,8 +118,8 @@ last_copy v = slice_index v.copies (v.copied - 1)
 abbrev pub CopyAnswer : View → View → ℕ → Put → Type 0
 CopyAnswer old new page (put.Down p) = (new.copied ≡ old.copied) × GoesDown old new page p 0 (next_copy old)
 CopyAnswer old new page (put.Right p) = (new.copied ≡ old.copied) × GoesRight old new page p 0 (next_copy old)
-CopyAnswer old new page put.PageFull = (new.copied ≡ old.copied) × IsReached old new page 0 (next_copy old) × IsFullPage new page
-CopyAnswer old new page put.Done = (new.copied ≡ old.copied + 1) × IsReached old new page 0 (next_copy old) × HasTaken new
+CopyAnswer old new page put.PageFull = (new.copied ≡ old.copied) × IsReached old new page 0 (next_copy old) × IsFullPage old new page
+CopyAnswer old new page put.Done = (new.copied ≡ old.copied + 1) × IsReached old new page 0 (next_copy old) × HasTaken old new page
 
 pub record CopiesIn (old new : View) (page : ℕ) (result : Put) : Type 0 where
   pub later : Later old new
@@ -167,7 +169,10 @@ pub record EntersSplit (old new : View) (at_end : Position) : Type 0 where
   pub wanted : MayFollow new.settings before (Split (prefix_or old.leaf))
   pub seen : new.seen ≡ before ++ Split (prefix_or old.leaf) ∷ []
   pub at_is : at_end ≡ end_of new.seen
+  -- all its live objects have their copies
+  pub all : IsTrue (list_any (λ l. same_cell (prefix_or old.leaf) l.prefix && (l.count == length old.copies)) (cells_of new.settings before))
   pub unclaimed : new.leaf ≡ None
+  pub freed : new.holder (prefix_or old.leaf) ≡ None
   pub over : new.splitting ≡ false
   pub earlier : List (List ℕ)
   pub retired : new.retired ≡ earlier ++ prefix_or old.leaf ∷ []
@@ -180,6 +185,7 @@ PublishAnswer old new (Err e) = SameLeaf old new × SameSplit old new
 pub record Publishes (old new : View) (result : Result Position NoMemory) : Type 0 where
   pub later : Later old new
   pub lacked : new.lacked ≡ old.lacked
+  pub told : new.told ≡ old.told
   pub update : SameUpdate old new
   pub sweep : SameSweep old new
   pub flags : SameFlags old new
@@ -197,8 +203,10 @@ pub record Publishes (old new : View) (result : Result Position NoMemory) : Type
 pub record GivesUp (old new : View) (pages : Bool) : Type 0 where
   pub later : Later old new
   pub lacked : new.lacked ≡ old.lacked
+  pub told : new.told ≡ old.told
   pub update : SameUpdate old new
   pub unclaimed : new.leaf ≡ None
+  pub freed : new.holder (prefix_or old.leaf) ≡ None
   pub over : new.splitting ≡ false
   pub sweep : SameSweep old new
   pub flags : SameFlags old new
@@ -211,6 +219,7 @@ pub record GivesUp (old new : View) (pages : Bool) : Type 0 where
   pub page : SamePage old new
   pub tries : SameTry old new
   pub passes_over : IsTrue pages → IsTrue (new.passed (prefix_or old.leaf))
+  pub else_as_before : pages ≡ false → new.passed (prefix_or old.leaf) ≡ old.passed (prefix_or old.leaf)
 
 -- the sweep goes on from the page that is named; where none is, it is over
 abbrev pub SweptTo : View → View → Option ℕ → Type 0

@@ -1,15 +1,17 @@
 -- What a World means: the view of its actor, and what sections leave as it was.
-use Rattle.std.specs.Prelude.{◌≡◌, ◌≢◌, ◌≤◌, ◌⊎◌, ◌%◌, [], ℕ, List, Option, Some, None, Bool, true, false, IsTrue, length}
+use Rattle.std.specs.Prelude.{◌≡◌, ◌≢◌, ◌≤◌, ◌⊎◌, ◌%◌, [], ℕ, List, Option, Some, None, Bool, true, false, IsTrue, length, ◌&&◌, drop}
+use Rattle.std.specs.List.{list_any}
 use Rattle.mi_base.specs.declared.records.LogEvent.{LogEvent}
 use Rattle.mi_base.specs.declared.records.Position.{Position}
 use Rattle.mi_base.specs.Configuration.{Configuration, IsWithinLimits, space_of}
-use Rattle.mi_base.specs.History.{Entered, end_of, events_at, updates_of, is_live}
+use Rattle.mi_base.specs.History.{Entered, end_of, events_at, updates_of, is_live, IsPosition}
 use Rattle.mi_base.specs.Permutations.{distances}
-use Rattle.mi_tree.specs.Births.{Born, living}
+use Rattle.mi_tree.specs.Births.{Born, living, splits_in}
 use Rattle.mi_tree.specs.Growing.{Grows}
-use Rattle.mi_tree.specs.Legal.{LegalLog}
+use Rattle.mi_tree.specs.Cells.{same_cell}
+use Rattle.mi_tree.specs.Counting.{has_leaf, is_wanted}
+use Rattle.mi_tree.specs.Legal.{LegalLog, cells_of}
 use Rattle.mi_world.specs.declared.answers.Record.{Record}
-use Rattle.mi_world.specs.Retired.{were_split_in_order}
 
 -- an actor that was absorbed, with its own updates
 pub record Absorbed : Type 0 where
@@ -44,9 +46,9 @@ pub record View : Type 0 where
   pub whole : Bool
   pub copies : List ℕ
   pub copied : ℕ
-  -- a fresh page in hand, the pages whose routes the actor owes, whether it ever took a copy back, and whether it did so untold that all
+  -- the fresh page in hand, the pages whose routes the actor owes, whether it ever took a copy back, and whether it did so untold that all
   -- pages are allotted
-  pub fresh : Bool
+  pub fresh : Option ℕ
   pub owes : ℕ → Bool
   pub undone : Bool
   pub early : Bool
@@ -62,10 +64,11 @@ pub record View : Type 0 where
   pub tells_full : Bool
   pub full : ℕ → Bool
   -- the note of the board, as the actor's latest section of it left it: how many pages are allotted, who claims a leaf, each actor's pin,
-  -- the leaves that were split and not yet given to be swept, oldest first, the leaves passed over, and the root with its level
+  -- how many of the leaves that were split were given to be swept, the others, oldest first, the leaves passed over, and the root with its level
   pub allotted : ℕ
   pub holder : List ℕ → Option ℕ
   pub pins : ℕ → Option Position
+  pub given : ℕ
   pub retired : List (List ℕ)
   pub passed : List ℕ → Bool
   pub root : ℕ
@@ -93,6 +96,7 @@ pub record Later (old new : View) : Type 0 where
   pub least : old.least ≤ new.least
   pub tells_full : new.tells_full ≡ old.tells_full
   pub allotted : old.allotted ≤ new.allotted
+  pub given : old.given ≤ new.given
 
 -- the lists of actors, which fork and absorb alone change
 pub record SameActors (old new : View) : Type 0 where
@@ -182,6 +186,10 @@ abbrev pub pin_position : Option (List LogEvent) → Option Position
 pin_position None = None
 pin_position (Some log) = Some (end_of log)
 
+-- the leaf of this prefix is to be split
+abbrev pub is_wanted_leaf : Configuration → List LogEvent → List ℕ → Bool
+is_wanted_leaf c log p = list_any (λ l. same_cell p l.prefix && is_wanted c.levels c.cell l) (cells_of c log)
+
 -- A section of the board: the actor has seen the whole log then, which is legal and agrees with the shard that it holds; and of the note its
 -- own claim and pin are part.
 pub record SeesBoard (new : View) : Type 0 where
@@ -196,8 +204,14 @@ pub record SeesBoard (new : View) : Type 0 where
   pub holds : (p : List ℕ) → new.leaf ≡ Some p → new.holder p ≡ Some new.actor
   pub alone : (p : List ℕ) → new.holder p ≡ Some new.actor → new.leaf ≡ Some p
   pub pin : new.pins new.actor ≡ pin_position new.pin
-  -- the leaves to be swept were split in their order
-  pub retired : IsTrue (were_split_in_order new.retired new.seen)
+  -- the leaf that it claims is a leaf, and it is known whether that is to be split
+  pub there : (p : List ℕ) → new.leaf ≡ Some p → has_leaf p (cells_of new.settings new.seen) ≡ true
+  pub wanted : (p : List ℕ) → new.leaf ≡ Some p → new.wanted ≡ is_wanted_leaf new.settings new.seen p
+  -- each pin is at a position of the log
+  pub read : (actor : ℕ) (q : Position) → new.pins actor ≡ Some q → IsPosition new.seen q
+  -- the leaves that were split first were given to be swept, and no others
+  pub given : new.given ≤ length (splits_in new.seen)
+  pub retired : new.retired ≡ drop new.given (splits_in new.seen)
   pub first : NamesFirstPage new
 
 -- the note of the board
@@ -205,6 +219,7 @@ pub record SameNote (old new : View) : Type 0 where
   pub allotted : new.allotted ≡ old.allotted
   pub holder : new.holder ≡ old.holder
   pub pins : new.pins ≡ old.pins
+  pub given : new.given ≡ old.given
   pub retired : new.retired ≡ old.retired
   pub passed : new.passed ≡ old.passed
   pub root : new.root ≡ old.root
@@ -217,11 +232,11 @@ pub record SameBoard (old new : View) : Type 0 where
   pub told : new.told ≡ old.told
   pub note : SameNote old new
 
--- no section of a page
+-- no section of a page: its note stays, and as many items are counted unless the floor rose
 pub record SamePage (old new : View) : Type 0 where
   pub page : new.page ≡ old.page
   pub high : new.high ≡ old.high
-  pub items : new.items ≡ old.items
+  pub items : new.floor ≡ old.floor → new.items ≡ old.items
 
 -- no try of a shard
 pub record SameTry (old new : View) : Type 0 where

@@ -1,5 +1,5 @@
 //! The sections of one actor, each by what it makes of the actor's view.
-ghost use Rattle.std.specs.Prelude.{◌≡◌, ◌<◌, ◌≤◌, ℕ, length, false, true, IsSome, IsTrue, None, Some};
+ghost use Rattle.std.specs.Prelude.{◌≡◌, ◌<◌, ◌≤◌, ℕ, length, false, true, is_some, IsSome, IsTrue, None, Some};
 ghost use Rattle.mi_base.specs.History.{end_of};
 ghost use Rattle.mi_tree.specs.Legal.{cells_of};
 ghost use Rattle.mi_world.specs.View.{View, shard_of};
@@ -121,7 +121,7 @@ pub trait World {
 
     /// Whether a fresh page is in the actor's hand.
     fn fresh(&self) -> bool
-        ensures { result ≡ (view self.now).fresh };
+        ensures { result ≡ is_some (view self.now).fresh };
 
     /// Whether memory was wanted for a page.
     fn lacked(&self) -> bool
@@ -129,14 +129,14 @@ pub trait World {
 
     /// Takes a fresh page in hand.
     fn allot(&mut self, alloc: Global) -> Result<(), AllotRefusal>
-        requires { (view self.old).fresh ≡ false }
+        requires { is_some (view self.old).fresh ≡ false }
         ensures told { Allots (view self.old) (view self.new) result }
         ensures section { section self.old self.new };
 
     /// Halves the page, if it is full.
     fn split_page(&mut self, page: u32) -> Parted
         requires named { IsTrue ((view self.old).named page) }
-        requires fresh { (view self.old).fresh ≡ true }
+        requires fresh { IsSome (view self.old).fresh }
         ensures told { PartsPage (view self.old) (view self.new) page result }
         ensures section { section self.old self.new };
 
@@ -150,7 +150,7 @@ pub trait World {
     /// Makes the fresh page the root of this level, with the routes of the old root and of the child.
     fn grow(&mut self, level: u32, key: Key, child: u32) -> bool
         requires route { IsChildAt (view self.old) level key child }
-        requires fresh { (view self.old).fresh ≡ true }
+        requires fresh { IsSome (view self.old).fresh }
         ensures told { Grew (view self.old) (view self.new) level child result }
         ensures section { section self.old self.new };
 
