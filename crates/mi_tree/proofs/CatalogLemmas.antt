@@ -116,7 +116,7 @@ range_more a (suc n) =
     ap (λ xs. a ∷ xs) (range_more (a + 1) n ∙ ap (λ x. range_with_len (a + 1) n ++ x ∷ []) last)
 
 -- the children by one pivot more
-child_more : (i : ℕ) (p : List ℕ) → children (i + 1) p ≡ children i p ++ map (λ j. p ++ j ∷ []) (cond (not (has i p)) (i ∷ []) [])
+pub child_more : (i : ℕ) (p : List ℕ) → children (i + 1) p ≡ children i p ++ map (λ j. p ++ j ∷ []) (cond (not (has i p)) (i ∷ []) [])
 child_more i p =
     let last : 0 + i ≡ i = omega arith in
     let tests : filter (λ x. not (has x p)) (range_with_len 0 (i + 1)) ≡ filter (λ x. not (has x p)) (range_with_len 0 i) ++ cond (not (has i p)) (i ∷ []) [] =

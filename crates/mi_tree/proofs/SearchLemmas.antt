@@ -81,7 +81,7 @@ before_later (x ∷ p) (y ∷ q) (z ∷ xs) h k =
     subst (λ (n : ℕ). (nat_lt n y || (nat_eq n y && before xs q)) ≡ true) e (go (nat_lt x y) (nat_eq x y) h)
 
 -- of two in order the earlier comes before the later
-ordered_at : (ls : List (List ℕ)) → StandInOrder ls → (i j : ℕ) → i < j → j < length ls → before (get_or ls i []) (get_or ls j []) ≡ true
+pub ordered_at : (ls : List (List ℕ)) → StandInOrder ls → (i j : ℕ) → i < j → j < length ls → before (get_or ls i []) (get_or ls j []) ≡ true
 ordered_at [] h i j lt l = absurd (omega arith)
 ordered_at (x ∷ ls) h i zero lt l = absurd (omega arith)
 ordered_at (x ∷ ls) h zero (suc j) lt l = All-from_recursion (λ y. before x y ≡ true) ls h.0 j [] (omega arith)

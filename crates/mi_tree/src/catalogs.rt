@@ -1,5 +1,5 @@
 //! The leaves of the index, each with its count and hull.
-ghost use Rattle.std.specs.Prelude.{◌≡◌, ◌<◌, ◌≤◌, ◌++◌, [], ◌∷◌, Some, IfOk, IfSome, OnOk, length, map, flat_map, slice_get, All, true};
+ghost use Rattle.std.specs.Prelude.{◌≡◌, ◌<◌, ◌≤◌, ◌+◌, ◌++◌, [], ◌∷◌, Some, IfOk, IfSome, OnOk, length, map, flat_map, slice_get, All, true};
 ghost use Rattle.mi_base.specs.Permutations.{begins};
 ghost use Rattle.mi_base.specs.Configuration.{IsDepth};
 ghost use Rattle.mi_tree.specs.Cells.{children, first_leaves};
@@ -8,9 +8,10 @@ ghost use Rattle.mi_tree.specs.Catalog.{Splits};
 
 use crate::counts::{self, Placed};
 use crate::{Leaf, SplitRefusal, cells};
-use mi_base::{NoMemory, Perm, Prefix};
+use mi_base::{NoMemory, Perm, Prefix, Steps};
 use std::alloc::Global;
 use std::marker::Model;
+use std::sync::ledger::Ledger;
 
 /// The leaves in dictionary order of their prefixes. Each permutation of the pivots begins with the prefix of exactly one.
 #[derive(Drop)]
@@ -120,13 +121,15 @@ impl Catalog {
         &self.leaves[place]
     }
 
-    /// The same catalog again, in memory of its own.
-    pub fn copy(&self, alloc: Global) -> Result<Catalog, NoMemory>
-        ensures { IfOk result (λ c. c ≡ self.now) }
+    /// The same catalog again, in memory of its own. It takes a step for each leaf.
+    pub fn copy<L: Ledger>(&self, alloc: Global, steps: &mut Steps<L>) -> Result<Catalog, NoMemory>
+        ensures same { IfOk result (λ c. c ≡ self.now) }
+        ensures ticks { OnOk result (steps.new ≡ steps.old + length self.now.leaves) }
     {
         let mut leaves = Vec::with_capacity(alloc, self.leaves.len())?;
         for leaf in &self.leaves {
             leaves.push(leaf.copy())?;
+            steps.tick();
         }
         Ok(Catalog {
             pivots: self.pivots,

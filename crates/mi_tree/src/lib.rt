@@ -12,7 +12,7 @@ mod refusals;
 
 pub use answers::{AllotRefusal, CommitRefusal, LeafClaim, Look, ReserveRefusal, Work};
 pub use catalogs::Catalog;
-pub use cells::is_same;
+pub use cells::{is_before, is_same};
 pub use counts::Placed;
 pub use laws::{
     born_objects_are_live, cat_ascends, cat_begins, cat_counts, cat_deletes, cat_has_leaves,

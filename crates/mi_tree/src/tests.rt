@@ -2,9 +2,10 @@
 ghost use Rattle.std.specs.Prelude.{◌≡◌, ◌<◌, ◌≤◌, IfOk, length};
 
 use crate::*;
-use mi_base::{Perm, Prefix};
+use mi_base::{NoMemory, Perm, Prefix, Steps};
 use std::alloc::Global;
-use std::marker::Model;
+use std::marker::{Brand, Model};
+use std::sync::ledger::{Blank, Ledger};
 use std::test::Fail;
 
 type Row = (usize, u32, Option<(u32, u32)>);
@@ -40,6 +41,15 @@ fn remove(catalog: &mut Catalog, perm: &Perm)
     }
 }
 
+/// The same catalog again, counted by a counter of its own.
+fn copy<L: Ledger>(alloc: Global, blank: Blank, catalog: &Catalog) -> Result<Catalog, NoMemory>
+    requires name { blank.name ≡ L.name }
+    requires parts { blank.parts ≡ L.parts }
+    requires some { 0 < blank.parts }
+{
+    catalog.copy(alloc, &mut Steps::<L>::new(blank))
+}
+
 #[test]
 fn a_split_leaves_the_live_objects_in_the_children(rt: HostRuntime) -> Result<(), Fail> {
     let near = Perm::new(&[0, 1]).ok_or("near")?;
@@ -52,7 +62,7 @@ fn a_split_leaves_the_live_objects_in_the_children(rt: HostRuntime) -> Result<()
     remove(&mut catalog, &near);
     remove(&mut catalog, &far);
     let zero = Prefix::of(&near, 1);
-    let earlier = catalog.copy(rt.alloc())?;
+    let earlier = copy::<Brand>(rt.alloc(), Blank::new(1), &catalog)?;
     let objects = [Placed {
         perm: Perm::new(&[0, 1]).ok_or("near")?,
         distance: 4,
