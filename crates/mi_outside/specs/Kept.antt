@@ -1,8 +1,9 @@
 -- What files and a sink in memory keep, and what a call makes of it.
-use Rattle.std.specs.Prelude.{ℕ, ◌-◌, ◌==◌, ◌||◌, ◌&&◌, List, ◌++◌, length, take, min, Bool, nat_lt, nat_le, is_none, if◌then◌else◌}
+use Rattle.std.specs.Prelude.{ℕ, ◌-◌, ◌==◌, ◌||◌, ◌&&◌, List, ◌++◌, length, take, min, Bool, nat_lt, nat_le, is_none, if◌then◌else◌, Some}
 use Rattle.std.specs.List.{list_any}
 use Rattle.mi_outside.specs.Contents.{content_of}
 use Rattle.mi_outside.specs.Outside.{raised_count}
+use Rattle.mi_outside.specs.States.{FilesState, SinkState}
 
 -- files: the contents by name, the numbers of the calls that fail, and how many calls and faults there were
 pub record KeptFiles : Type 0 where
@@ -10,6 +11,10 @@ pub record KeptFiles : Type 0 where
   pub fails : List ℕ
   pub calls : ℕ
   pub faults : ℕ
+
+-- how they stand for a caller
+abbrev pub files_state : KeptFiles → FilesState
+files_state kept = record { content = content_of kept.files; faults = kept.faults }
 
 -- the next read fails: its number is listed, or the name has no content
 abbrev pub read_fails : KeptFiles → List ℕ → Bool
@@ -30,6 +35,10 @@ pub record KeptBytes : Type 0 where
   pub fails : List ℕ
   pub calls : ℕ
   pub faults : ℕ
+
+-- how it stands for a caller
+abbrev pub sink_state : KeptBytes → SinkState
+sink_state kept = record { written = Some kept.bytes; faults = kept.faults }
 
 -- the next write fails: its number is listed, or no room is left for a piece that isn't empty
 abbrev pub write_fails : KeptBytes → List ℕ → Bool

@@ -1,8 +1,8 @@
 //! Files in memory, some of whose reads fail.
 ghost use Rattle.std.specs.Prelude.{◌≡◌, ◌≤◌, ◌↔◌, ℕ, List, [], IsTrue, IfOk, IfErr, OnOk, OnErr};
 ghost use Rattle.mi_outside.specs.Contents.{SetsContent, content_of};
-ghost use Rattle.mi_outside.specs.Kept.{KeptFiles, after_read, read_fails};
-ghost use Rattle.mi_outside.specs.Outside.{Reads, RefusesRead};
+ghost use Rattle.mi_outside.specs.Kept.{KeptFiles, after_read, files_state, read_fails};
+ghost use Rattle.mi_outside.specs.Outside.{KeepsContents, Reads, RefusesRead};
 
 use crate::folder::{Folder, add_content};
 use crate::{Files, ReadRefusal};
@@ -51,14 +51,13 @@ impl MemoryFiles {
 }
 
 impl Files for MemoryFiles {
-    ghost content = { λ m n. content_of m.files n };
-
-    ghost faults = { λ m. m.faults };
+    ghost state = { λ m. files_state m };
 
     fn read(&mut self, name: &str, into: &mut Vec<u8>) -> Result<(), ReadRefusal>
         ensures ok { OnOk result (Reads (content_of self.old.files name.now) into.old.items into.new.items) }
         ensures err { IfErr result (RefusesRead (content_of self.old.files name.now) self.old.faults self.new.faults) }
-        ensures contents { (n : List ℕ) → content_of self.new.files n ≡ content_of self.old.files n }
+        ensures uncounted { OnOk result (self.new.faults ≡ self.old.faults) }
+        ensures contents { KeepsContents (files_state self.old) (files_state self.new) }
         ensures count { self.old.faults ≤ self.new.faults }
 
         // Which calls fail is determined, and so is what is kept.

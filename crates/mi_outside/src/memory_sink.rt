@@ -1,6 +1,6 @@
 //! A sink in memory, some of whose writes fail.
-ghost use Rattle.std.specs.Prelude.{◌≡◌, ◌≤◌, ◌↔◌, [], Some, IsTrue, IsErr, IfOk, OnErr};
-ghost use Rattle.mi_outside.specs.Kept.{after_write, taken_of, write_fails};
+ghost use Rattle.std.specs.Prelude.{◌≡◌, ◌≤◌, ◌↔◌, [], IsTrue, IsErr, IfOk, OnErr};
+ghost use Rattle.mi_outside.specs.Kept.{after_write, sink_state, taken_of, write_fails};
 ghost use Rattle.mi_outside.specs.Outside.{Fails, Writes};
 
 use crate::{Sink, SinkFailed};
@@ -61,14 +61,12 @@ impl MemorySink {
 }
 
 impl Sink for MemorySink {
-    ghost written = { λ m. Some m.bytes };
-
-    ghost faults = { λ m. m.faults };
+    ghost state = { λ m. sink_state m };
 
     /// It takes no memory.
     fn write(&mut self, piece: &[u8]) -> Result<usize, SinkFailed>
-        ensures ok { IfOk result (λ n. Writes (Some self.old.bytes) self.old.faults n (Some self.new.bytes) self.new.faults piece.now) }
-        ensures err { OnErr result (Fails (Some self.old.bytes) self.old.faults (Some self.new.bytes) self.new.faults) }
+        ensures ok { IfOk result (λ n. Writes (sink_state self.old) (sink_state self.new) n piece.now) }
+        ensures err { OnErr result (Fails (sink_state self.old) (sink_state self.new)) }
         ensures count { self.old.faults ≤ self.new.faults }
 
         // Which calls fail and how much is taken is determined, and so is what is kept.

@@ -1,5 +1,5 @@
 //! Files by name.
-ghost use Rattle.std.specs.Prelude.{◌≡◌, ◌≤◌, ℕ, List, Option, IfErr, OnOk};
+ghost use Rattle.std.specs.Prelude.{◌≡◌, ◌≤◌, IfErr, OnOk};
 
 /// Why a file was not read.
 #[derive(Clone, Copy, Debug, PartialEq, Eq)]
@@ -14,19 +14,17 @@ pub enum ReadRefusal {
 
 /// Files that are read whole, by their names.
 pub trait Files {
-    ghost use Rattle.mi_outside.specs.Outside.{Reads, RefusesRead};
+    ghost use Rattle.mi_outside.specs.Outside.{KeepsContents, Reads, RefusesRead};
+    ghost use Rattle.mi_outside.specs.States.{FilesState};
 
-    // what the file of a name holds, where it is told
-    ghost content: { Self → List ℕ → Option (List ℕ) };
-
-    // how often reading failed so far, kept as a u64
-    ghost faults: { Self → ℕ };
+    ghost state: { Self → FilesState };
 
     /// Adds the bytes of the file at the end of `into`. After a refusal `into` may hold more than
     /// before, and is of no use.
     fn read(&mut self, name: &str, into: &mut Vec<u8>) -> Result<(), ReadRefusal>
-        ensures ok { OnOk result (Reads (content self.old name.now) into.old.items into.new.items) }
-        ensures err { IfErr result (RefusesRead (content self.old name.now) (faults self.old) (faults self.new)) }
-        ensures contents { (n : List ℕ) → content self.new n ≡ content self.old n }
-        ensures count { faults self.old ≤ faults self.new };
+        ensures ok { OnOk result (Reads ((state self.old).content name.now) into.old.items into.new.items) }
+        ensures uncounted { OnOk result ((state self.new).faults ≡ (state self.old).faults) }
+        ensures err { IfErr result (RefusesRead ((state self.old).content name.now) (state self.old).faults (state self.new).faults) }
+        ensures contents { KeepsContents (state self.old) (state self.new) }
+        ensures count { (state self.old).faults ≤ (state self.new).faults };
 }

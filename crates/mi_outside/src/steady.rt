@@ -43,9 +43,7 @@ impl SteadyFiles {
 }
 
 impl Files for SteadyFiles {
-    ghost content = { λ s n. Some (unwrap_or (content_of s n) []) };
-
-    ghost faults = { λ s. 0 };
+    ghost state = { λ s. record { content = λ n. Some (unwrap_or (content_of s n) []); faults = 0 } };
 
     fn read(&mut self, name: &str, into: &mut Vec<u8>) -> Result<(), ReadRefusal>
         ensures ok { OnOk result (Reads (Some (unwrap_or (content_of self.old name.now) [])) into.old.items into.new.items) }
@@ -69,9 +67,7 @@ impl SteadySink {
 }
 
 impl Sink for SteadySink {
-    ghost written = { λ s. None };
-
-    ghost faults = { λ s. 0 };
+    ghost state = { λ s. record { written = None; faults = 0 } };
 
     fn write(&mut self, piece: &[u8]) -> Result<usize, SinkFailed>
         ensures { result ≡ Ok (length piece.now) }

@@ -1,5 +1,5 @@
 //! A sink of bytes.
-ghost use Rattle.std.specs.Prelude.{◌≤◌, ℕ, List, Option, IfOk, OnErr};
+ghost use Rattle.std.specs.Prelude.{◌<◌, ◌≤◌, length, IfOk, OnErr};
 ghost use Rattle.mi_outside.specs.Outside.{Fails, Sends, Writes};
 
 /// Writing failed, which the count of faults tells.
@@ -8,30 +8,41 @@ pub struct SinkFailed;
 
 /// What takes bytes in order, as many a call as it likes.
 pub trait Sink {
-    // what went out so far, where it is told
-    ghost written: { Self → Option (List ℕ) };
+    ghost use Rattle.mi_outside.specs.States.{SinkState};
 
-    // how often writing failed so far, kept as a u64
-    ghost faults: { Self → ℕ };
+    ghost state: { Self → SinkState };
 
     /// Takes a front of the piece, and answers how many bytes it has. To take nothing of a piece that
     /// isn't empty is a failure too, and is counted as one.
     fn write(&mut self, piece: &[u8]) -> Result<usize, SinkFailed>
-        ensures ok { IfOk result (λ n. Writes (written self.old) (faults self.old) n (written self.new) (faults self.new) piece.now) }
-        ensures err { OnErr result (Fails (written self.old) (faults self.old) (written self.new) (faults self.new)) }
-        ensures count { faults self.old ≤ faults self.new };
+        ensures ok { IfOk result (λ n. Writes (state self.old) (state self.new) n piece.now) }
+        ensures err { OnErr result (Fails (state self.old) (state self.new)) }
+        ensures count { (state self.old).faults ≤ (state self.new).faults };
+}
+
+/// Writes a front of a piece that isn't empty, and answers how many bytes it has, at least one.
+#[tactic(auto, using(crate::proofs::SendingLemmas::fails_by_none))]
+fn write_some<S: Sink>(out: &mut S, piece: &[u8]) -> Result<usize, SinkFailed>
+    requires { 0 < length piece.now }
+    ensures some { IfOk result (λ n. 0 < n) }
+    ensures ok { IfOk result (λ n. Writes (S.state out.old) (S.state out.new) n piece.now) }
+    ensures err { OnErr result (Fails (S.state out.old) (S.state out.new)) }
+    ensures count { (S.state out.old).faults ≤ (S.state out.new).faults }
+{
+    let taken = out.write(piece)?;
+    if taken == 0 {
+        return Err(SinkFailed);
+    }
+    Ok(taken)
 }
 
 /// Writes the whole piece, by as many calls as the sink needs.
 pub fn write_all<S: Sink>(out: &mut S, piece: &[u8]) -> Result<(), SinkFailed>
-    ensures { Sends (S.written out.old) (S.faults out.old) result (S.written out.new) (S.faults out.new) piece.now }
+    ensures { Sends (S.state out.old) (S.state out.new) piece.now result }
 {
     let mut sent = 0;
     while sent < piece.len() {
-        let taken = out.write(&piece[sent..])?;
-        if taken == 0 {
-            return Err(SinkFailed);
-        }
+        let taken = write_some(out, &piece[sent..])?;
         sent += taken;
     }
     Ok(())

@@ -1,5 +1,5 @@
 -- Sending the text of each item of a list in turn.
-use Rattle.std.proofs.Common.{◌≡◌, ℕ, suc, ◌+◌, ◌<◌, List, [], ◌∷◌, ◌++◌, length, take, drop, get_or, Option, Result, Ok, Err, sym, ap, ◌∙◌, arith, append-nil, length-append}
+use Rattle.std.proofs.Common.{◌≡◌, ℕ, suc, ◌+◌, ◌<◌, List, [], ◌∷◌, ◌++◌, length, take, drop, get_or, Result, Ok, Err, sym, ap, ◌∙◌, arith, append-nil, length-append}
 use Rattle.std.specs.Prelude.{codes}
 use Rattle.std.specs.List.{flat_map}
 use Rattle.std.specs.Result.{IsErrAnd}
@@ -14,6 +14,7 @@ use Rattle.mi_base.specs.History.{updates_of}
 use Rattle.mi_base.proofs.HistoryLemmas.{updates_of-append}
 use Rattle.mi_outside.specs.declared.writing.SinkFailed.{SinkFailed}
 use Rattle.mi_outside.specs.Outside.{Sends}
+use Rattle.mi_outside.specs.States.{SinkState}
 use Rattle.mi_outside.proofs.SendingLemmas.{sends_then, sends_ended}
 use Rattle.mi_print.specs.Render.{session_lines, reply_lines, number_line}
 
@@ -25,8 +26,8 @@ parted f xs i x lt is =
     ap (flat_map f) (sym (take-append-drop (i + 1) xs)) ∙ flat_map-append f (take (i + 1) xs) (drop (i + 1) xs) ∙ ap (λ y. y ++ flat_map f (drop (i + 1) xs)) front
 
 -- where the text of one item failed, the texts of all have failed
-pub sends_each_ended : {b : Option (List ℕ)} {c : ℕ} {u : Unit {0}} {m : Option (List ℕ)} {d : ℕ} {e : SinkFailed} {a : Option (List ℕ)} {k : ℕ} {X : Type 0} (f : X → List ℕ) (xs : List X) (i : ℕ) (x : X) (P : SinkFailed → Type 0) (r : Result (Unit {0}) SinkFailed)
-    → i < length xs → x ≡ get_or xs i x → IsErrAnd r P → Sends b c (Ok u) m d (flat_map f (take i xs)) → Sends m d (Err e) a k (f x) → Sends b c r a k (flat_map f xs)
+pub sends_each_ended : {a b c : SinkState} {u : Unit {0}} {e : SinkFailed} {X : Type 0} (f : X → List ℕ) (xs : List X) (i : ℕ) (x : X) (P : SinkFailed → Type 0) (r : Result (Unit {0}) SinkFailed)
+    → i < length xs → x ≡ get_or xs i x → IsErrAnd r P → Sends a b (flat_map f (take i xs)) (Ok u) → Sends b c (f x) (Err e) → Sends a c (flat_map f xs) r
 sends_each_ended f xs i x P r lt is ended done stopped =
     sends_ended P r (flat_map f (take i xs) ++ f x) (flat_map f (drop (i + 1) xs)) (flat_map f xs) ended (parted f xs i x lt is) (sends_then (flat_map f (take i xs)) (f x) done stopped)
 
@@ -35,10 +36,10 @@ abbrev pub session_text : ℕ → List Reply → List ℕ
 session_text n replies = number_line (codes "session") (n ∷ []) ++ flat_map reply_lines replies
 
 -- what was sent, with what is left, is all
-pub record Sent (before : Option (List ℕ)) (count : ℕ) (after : Option (List ℕ)) (count' : ℕ) (rest whole : List ℕ) : Type 0 where
+pub record Sent (before after : SinkState) (rest whole : List ℕ) : Type 0 where
   pub done : List ℕ
   pub joined : done ++ rest ≡ whole
-  pub sends : Sends before count (Ok tt) after count' done
+  pub sends : Sends before after done (Ok tt)
 
 -- one more session
 pub session_lines-drop : (n : ℕ) (xs : List (List Reply)) (x : List Reply) → n < length xs → x ≡ get_or xs n x → session_lines n (drop n xs) ≡ session_text n x ++ session_lines (n + 1) (drop (n + 1) xs)

@@ -75,7 +75,7 @@ impl Line {
     /// Sends the line and its line feed. It takes no memory.
     pub fn send<S: Sink>(mut self, out: &mut S) -> Result<(), SinkFailed>
         requires { length self ≤ 1000 }
-        ensures { Sends (S.written out.old) (S.faults out.old) result (S.written out.new) (S.faults out.new) (self ++ 10 ∷ []) }
+        ensures { Sends (S.state out.old) (S.state out.new) (self ++ 10 ∷ []) result }
     {
         self.text.push_str("\n");
         write_all(out, self.text.as_bytes())

@@ -19,7 +19,7 @@ use mi_tree::{Leaf, Leaves, Outcome};
 pub fn send_numbers<S: Sink>(word: &str, numbers: &[u64], out: &mut S) -> Result<(), SinkFailed>
     requires short { length word.now ≤ 30 }
     requires few { length numbers.now ≤ 5 }
-    ensures { Sends (S.written out.old) (S.faults out.old) result (S.written out.new) (S.faults out.new) (number_line word.now numbers.now) }
+    ensures { Sends (S.state out.old) (S.state out.new) (number_line word.now numbers.now) result }
 {
     let mut line = Line::new(word);
     for number in numbers {
@@ -29,7 +29,7 @@ pub fn send_numbers<S: Sink>(word: &str, numbers: &[u64], out: &mut S) -> Result
 }
 
 fn send_row<S: Sink>(row: &Row, out: &mut S) -> Result<(), SinkFailed>
-    ensures { Sends (S.written out.old) (S.faults out.old) result (S.written out.new) (S.faults out.new) (row_line row.now) }
+    ensures { Sends (S.state out.old) (S.state out.new) (row_line row.now) result }
 {
     let mut line = Line::of_number(row.distance as u64);
     line.number(row.id.get());
@@ -37,7 +37,7 @@ fn send_row<S: Sink>(row: &Row, out: &mut S) -> Result<(), SinkFailed>
 }
 
 fn send_rows<S: Sink>(rows: &Rows, out: &mut S) -> Result<(), SinkFailed>
-    ensures { Sends (S.written out.old) (S.faults out.old) result (S.written out.new) (S.faults out.new) (row_lines rows.now) }
+    ensures { Sends (S.state out.old) (S.state out.new) (row_lines rows.now) result }
 {
     for row in rows.as_slice() {
         send_row(row, out)?;
@@ -47,13 +47,13 @@ fn send_rows<S: Sink>(rows: &Rows, out: &mut S) -> Result<(), SinkFailed>
 
 fn send_position<S: Sink>(word: &str, at: Position, out: &mut S) -> Result<(), SinkFailed>
     requires { length word.now ≤ 30 }
-    ensures { Sends (S.written out.old) (S.faults out.old) result (S.written out.new) (S.faults out.new) (number_line word.now (at.updates ∷ at.splits ∷ [])) }
+    ensures { Sends (S.state out.old) (S.state out.new) (number_line word.now (at.updates ∷ at.splits ∷ [])) result }
 {
     send_numbers(word, &[at.updates as u64, at.splits as u64], out)
 }
 
 fn send_reply<S: Sink>(reply: &Reply, out: &mut S) -> Result<(), SinkFailed>
-    ensures { Sends (S.written out.old) (S.faults out.old) result (S.written out.new) (S.faults out.new) (reply_lines reply.now) }
+    ensures { Sends (S.state out.old) (S.state out.new) (reply_lines reply.now) result }
 {
     match reply {
         Reply::Stored { number } => send_numbers("stored", &[*number as u64], out),
@@ -80,8 +80,7 @@ fn send_range<S: Sink>(
     distances: u64,
     out: &mut S,
 ) -> Result<(), SinkFailed>
-    ensures { Sends (S.written out.old) (S.faults out.old) result (S.written out.new) (S.faults out.new)
-        (number_line (codes "range") (at.updates ∷ at.splits ∷ length rows.now ∷ cells ∷ distances ∷ []) ++ row_lines rows.now) }
+    ensures { Sends (S.state out.old) (S.state out.new) (number_line (codes "range") (at.updates ∷ at.splits ∷ length rows.now ∷ cells ∷ distances ∷ []) ++ row_lines rows.now) result }
 {
     let numbers = [
         at.updates as u64,
@@ -100,8 +99,7 @@ fn send_nearest<S: Sink>(
     cells: u32,
     out: &mut S,
 ) -> Result<(), SinkFailed>
-    ensures { Sends (S.written out.old) (S.faults out.old) result (S.written out.new) (S.faults out.new)
-        (number_line (codes "nearest") (at.updates ∷ at.splits ∷ length rows.now ∷ cells ∷ []) ++ row_lines rows.now) }
+    ensures { Sends (S.state out.old) (S.state out.new) (number_line (codes "nearest") (at.updates ∷ at.splits ∷ length rows.now ∷ cells ∷ []) ++ row_lines rows.now) result }
 {
     let numbers = [
         at.updates as u64,
@@ -114,7 +112,7 @@ fn send_nearest<S: Sink>(
 }
 
 fn send_replies<S: Sink>(replies: &Replies, out: &mut S) -> Result<(), SinkFailed>
-    ensures { Sends (S.written out.old) (S.faults out.old) result (S.written out.new) (S.faults out.new) (flat_map reply_lines replies.now) }
+    ensures { Sends (S.state out.old) (S.state out.new) (flat_map reply_lines replies.now) result }
 {
     for reply in replies.as_slice() {
         send_reply(reply, out)?;
@@ -123,15 +121,14 @@ fn send_replies<S: Sink>(replies: &Replies, out: &mut S) -> Result<(), SinkFaile
 }
 
 fn send_session<S: Sink>(number: usize, replies: &Replies, out: &mut S) -> Result<(), SinkFailed>
-    ensures { Sends (S.written out.old) (S.faults out.old) result (S.written out.new) (S.faults out.new)
-        (number_line (codes "session") (number ∷ []) ++ flat_map reply_lines replies.now) }
+    ensures { Sends (S.state out.old) (S.state out.new) (number_line (codes "session") (number ∷ []) ++ flat_map reply_lines replies.now) result }
 {
     send_numbers("session", &[number as u64], out)?;
     send_replies(replies, out)
 }
 
 fn send_sessions<S: Sink>(sessions: &Transcript, out: &mut S) -> Result<(), SinkFailed>
-    ensures { Sends (S.written out.old) (S.faults out.old) result (S.written out.new) (S.faults out.new) (session_lines 0 sessions.now) }
+    ensures { Sends (S.state out.old) (S.state out.new) (session_lines 0 sessions.now) result }
 {
     for (number, replies) in sessions.as_slice().iter().enumerate() {
         send_session(number, replies, out)?;
@@ -172,8 +169,7 @@ fn send_insert<S: Sink>(
     vector: &Vector,
     out: &mut S,
 ) -> Result<(), SinkFailed>
-    ensures { Sends (S.written out.old) (S.faults out.old) result (S.written out.new) (S.faults out.new)
-        (line (codes "insert") (decimal session ∷ decimal op ∷ decimal id ∷ map signed_decimal vector.now)) }
+    ensures { Sends (S.state out.old) (S.state out.new) (line (codes "insert") (decimal session ∷ decimal op ∷ decimal id ∷ map signed_decimal vector.now)) result }
 {
     let mut line = Line::new("insert");
     line.number(session as u64);
@@ -191,7 +187,7 @@ fn send_update<S: Sink>(
     update: &Update,
     out: &mut S,
 ) -> Result<(), SinkFailed>
-    ensures { Sends (S.written out.old) (S.faults out.old) result (S.written out.new) (S.faults out.new) (event_line (LogEvent.Update session op update.now)) }
+    ensures { Sends (S.state out.old) (S.state out.new) (event_line (LogEvent.Update session op update.now)) result }
 {
     match update {
         Update::Insert { id, vector } => send_insert(session, op, id.get(), vector, out),
@@ -203,7 +199,7 @@ fn send_update<S: Sink>(
 }
 
 fn send_event<S: Sink>(event: &LogEvent, out: &mut S) -> Result<(), SinkFailed>
-    ensures { Sends (S.written out.old) (S.faults out.old) result (S.written out.new) (S.faults out.new) (event_line event.now) }
+    ensures { Sends (S.state out.old) (S.state out.new) (event_line event.now) result }
 {
     match event {
         LogEvent::Update {
@@ -232,7 +228,7 @@ fn count_updates(log: &Log) -> usize
 }
 
 fn send_events<S: Sink>(log: &Log, out: &mut S) -> Result<(), SinkFailed>
-    ensures { Sends (S.written out.old) (S.faults out.old) result (S.written out.new) (S.faults out.new) (flat_map event_line log.now) }
+    ensures { Sends (S.state out.old) (S.state out.new) (flat_map event_line log.now) result }
 {
     for event in log.as_slice() {
         send_event(event, out)?;
@@ -241,7 +237,7 @@ fn send_events<S: Sink>(log: &Log, out: &mut S) -> Result<(), SinkFailed>
 }
 
 fn send_history<S: Sink>(log: &Log, out: &mut S) -> Result<(), SinkFailed>
-    ensures { Sends (S.written out.old) (S.faults out.old) result (S.written out.new) (S.faults out.new) (history_lines log.now) }
+    ensures { Sends (S.state out.old) (S.state out.new) (history_lines log.now) result }
 {
     let updates = count_updates(log);
     let splits = log.len().saturating_sub(updates);
@@ -250,7 +246,7 @@ fn send_history<S: Sink>(log: &Log, out: &mut S) -> Result<(), SinkFailed>
 }
 
 fn send_leaf<S: Sink>(leaf: &Leaf, out: &mut S) -> Result<(), SinkFailed>
-    ensures { Sends (S.written out.old) (S.faults out.old) result (S.written out.new) (S.faults out.new) (leaf_line leaf.now) }
+    ensures { Sends (S.state out.old) (S.state out.new) (leaf_line leaf.now) result }
 {
     send_numbers(
         prefix_text(&leaf.prefix).as_str(),
@@ -260,7 +256,7 @@ fn send_leaf<S: Sink>(leaf: &Leaf, out: &mut S) -> Result<(), SinkFailed>
 }
 
 fn send_leaves<S: Sink>(cells: &Leaves, out: &mut S) -> Result<(), SinkFailed>
-    ensures { Sends (S.written out.old) (S.faults out.old) result (S.written out.new) (S.faults out.new) (flat_map leaf_line cells.now) }
+    ensures { Sends (S.state out.old) (S.state out.new) (flat_map leaf_line cells.now) result }
 {
     for leaf in cells.as_slice() {
         send_leaf(leaf, out)?;
@@ -269,7 +265,7 @@ fn send_leaves<S: Sink>(cells: &Leaves, out: &mut S) -> Result<(), SinkFailed>
 }
 
 fn send_cells<S: Sink>(cells: &Leaves, out: &mut S) -> Result<(), SinkFailed>
-    ensures { Sends (S.written out.old) (S.faults out.old) result (S.written out.new) (S.faults out.new) (cell_lines cells.now) }
+    ensures { Sends (S.state out.old) (S.state out.new) (cell_lines cells.now) result }
 {
     send_numbers("cells", &[cells.len() as u64], out)?;
     send_leaves(cells, out)
@@ -281,8 +277,7 @@ fn send_totals<S: Sink>(
     limit: u32,
     out: &mut S,
 ) -> Result<(), SinkFailed>
-    ensures { Sends (S.written out.old) (S.faults out.old) result (S.written out.new) (S.faults out.new)
-        (number_line (codes "entries") (entries ∷ []) ++ number_line (codes "pages") (allotted ∷ limit ∷ [])) }
+    ensures { Sends (S.state out.old) (S.state out.new) (number_line (codes "entries") (entries ∷ []) ++ number_line (codes "pages") (allotted ∷ limit ∷ [])) result }
 {
     send_numbers("entries", &[entries], out)?;
     send_numbers("pages", &[allotted as u64, limit as u64], out)
@@ -290,8 +285,7 @@ fn send_totals<S: Sink>(
 
 /// Sends the transcript. It takes no memory.
 pub fn render<S: Sink>(outcome: &Outcome, out: &mut S) -> Result<(), SinkFailed>
-    ensures { Sends (S.written out.old) (S.faults out.old) result (S.written out.new) (S.faults out.new)
-        (transcript outcome.now.replies outcome.now.log outcome.now.cells outcome.now.entries outcome.now.allotted outcome.now.limit) }
+    ensures { Sends (S.state out.old) (S.state out.new) (transcript outcome.now.replies outcome.now.log outcome.now.cells outcome.now.entries outcome.now.allotted outcome.now.limit) result }
 {
     send_sessions(&outcome.replies, out)?;
     send_history(&outcome.log, out)?;

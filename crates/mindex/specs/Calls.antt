@@ -6,7 +6,8 @@ use Rattle.mi_base.specs.declared.records.LogEvent.{LogEvent}
 use Rattle.mi_base.specs.History.{live, updates_of}
 use Rattle.mi_input.specs.declared.faults.Reason.{Reason}
 use Rattle.mi_input.specs.declared.faults.Reason.TheVariants as reason
-use Rattle.mi_outside.specs.Outside.{Rose, Wrote, WroteFront}
+use Rattle.mi_outside.specs.Outside.{Rose, SendsPart, SendsWhole}
+use Rattle.mi_outside.specs.States.{FilesState, SinkState}
 use Rattle.mi_legal.specs.InTurn.{AloneInTurn}
 use Rattle.mi_tree.specs.Legal.{Settled}
 use Rattle.mi_legal.specs.Legal.{Legal}
@@ -15,6 +16,9 @@ use Rattle.mi_table.specs.declared.faults.TableFault.{TableFault}
 use Rattle.mi_table.specs.declared.faults.TableFault.TheVariants as table
 use Rattle.mindex.specs.declared.refusals.Refusal.{Refusal}
 use Rattle.mindex.specs.declared.refusals.Refusal.TheVariants.{Record, Table}
+use Rattle.mindex.specs.declared.statuses.Status.{Status}
+use Rattle.mindex.specs.declared.statuses.Status.TheVariants as status
+use Rattle.mindex.specs.Statuses.{status_number}
 use Rattle.mindex.specs.Inputs.{Names, Texts, Inputs, AreTextsOf, inputs_of, GoodBefore}
 use Rattle.mi_plain.specs.Answering.{RanAlone}
 use Rattle.mi_legal.specs.Want.{has_memory}
@@ -55,11 +59,10 @@ abbrev pub refusal_line : Refusal → List ℕ
 refusal_line (Record file number why) = fault_line file number (reason_word why) []
 refusal_line (Table fault) = table_line fault
 
--- 2 for the settings and their table, 3 for the other files
-abbrev pub refusal_status : Refusal → ℕ
-refusal_status (Record zero number why) = 2
-refusal_status (Record (suc file) number why) = 3
-refusal_status (Table fault) = 2
+abbrev pub refusal_status : Refusal → Status
+refusal_status (Record zero number why) = status.BadSettings
+refusal_status (Record (suc file) number why) = status.BadFile
+refusal_status (Table fault) = status.BadSettings
 
 -- THE HEADLINE. The text is the transcript of replies and a log that are legal for the script, and each operation found the log as
 -- those before it and the splits so far left it. Where the splitter gave up no split, no leaf is left to be split.
@@ -80,78 +83,97 @@ pub record IsTranscript (inputs : Inputs) (short : Bool) (text : List ℕ) : Typ
   pub text_is : text ≡ rendering inputs.settings replies log entries allotted
 
 -- a file isn't of its form: the first in the order of the words
-pub record IsRefusal (texts : Texts) (status : ℕ) (text : List ℕ) : Type 0 where
+pub record IsRefusal (texts : Texts) (said : Status) (text : List ℕ) : Type 0 where
   pub refusal : Refusal
   pub first : inputs_of texts ≡ Err refusal
-  pub status_is : status ≡ refusal_status refusal
+  pub said_is : said ≡ refusal_status refusal
   pub text_is : text ≡ refusal_line refusal
 
 -- A file could not be read: the count of faults of the files rose, and each file before the one that is named is good. The count is
 -- one for all files, so that the name is pinned no further: where a file is good, its own failed read may be told of a later one.
-pub record IsUnread (texts : Texts) (reads reads' : ℕ) (status : ℕ) (text : List ℕ) : Type 0 where
+pub record IsUnread (texts : Texts) (old new : FilesState) (said : Status) (text : List ℕ) : Type 0 where
   pub file : ℕ
   pub good : GoodBefore file texts
-  pub counted : Rose reads reads'
-  pub status_is : status ≡ 4
+  pub counted : Rose old.faults new.faults
+  pub said_is : said ≡ status.Unread
   pub text_is : text ≡ unread_line file
 
--- inputs were run: 0 where no reply is missing for want of memory and no split was given up for it, else 6
-pub record RunsTo (inputs : Inputs) (status : ℕ) (text : List ℕ) : Type 0 where
+-- the status of a transcript: it is short where a reply is missing for want of memory, or a split was given up for it
+abbrev pub transcript_status : Bool → Status
+transcript_status true = status.Short
+transcript_status false = status.Done
+
+-- inputs were run
+pub record RunsTo (inputs : Inputs) (said : Status) (text : List ℕ) : Type 0 where
   pub short : Bool
   pub ran : IsTranscript inputs short text
-  pub status_is : status ≡ cond short 6 0
+  pub said_is : said ≡ transcript_status short
 
 -- the inputs that the texts are were run
-pub record IsRun (texts : Texts) (status : ℕ) (text : List ℕ) : Type 0 where
+pub record IsRun (texts : Texts) (said : Status) (text : List ℕ) : Type 0 where
   pub inputs : Inputs
   pub read : inputs_of texts ≡ Ok inputs
-  pub runs : RunsTo inputs status text
+  pub runs : RunsTo inputs said text
 
 -- memory was wanted before there was a whole outcome
-pub record IsWant (status : ℕ) (text : List ℕ) : Type 0 where
-  pub status_is : status ≡ 7
+pub record IsWant (said : Status) (text : List ℕ) : Type 0 where
+  pub said_is : said ≡ status.NoMemory
   pub text_is : text ≡ memory_line
 
--- what a call of served words says, for texts that its files have
-pub record Serves (names : Names) (content : List ℕ → Option (List ℕ)) (reads reads' : ℕ) (status : ℕ) (text : List ℕ) : Type 0 where
+-- what is said where no read failed
+abbrev pub SaysOf : Texts → Status → List ℕ → Type 0
+SaysOf texts said text = IsRefusal texts said text ⊎ (IsRun texts said text ⊎ IsWant said text)
+
+-- what a call of served words says, for texts that its files have: a fault of reading is told, and is counted where it is told alone
+pub record Serves (names : Names) (old new : FilesState) (said : Status) (text : List ℕ) : Type 0 where
   pub texts : Texts
-  pub told : AreTextsOf content names texts
-  pub says : IsRefusal texts status text ⊎ (IsUnread texts reads reads' status text ⊎ (IsRun texts status text ⊎ IsWant status text))
+  pub told : AreTextsOf old names texts
+  pub says : IsUnread texts old new said text ⊎ ((new.faults ≡ old.faults) × SaysOf texts said text)
 
 -- what a call says, whichever words it is given
-abbrev pub Says : Option Names → (List ℕ → Option (List ℕ)) → ℕ → ℕ → ℕ → List ℕ → Type 0
-Says None content reads reads' status text = (status ≡ 1) × (text ≡ usage_line)
-Says (Some names) content reads reads' status text = Serves names content reads reads' status text
+abbrev pub Says : Option Names → FilesState → FilesState → Status → List ℕ → Type 0
+Says None old new said text = (said ≡ status.Usage) × (text ≡ usage_line) × (new.faults ≡ old.faults)
+Says (Some names) old new said text = Serves names old new said text
 
--- A text goes out whole beside its status. Or a write fails, which is counted: then the status is 5, and a front of the text went out.
-pub record Ends (said : ℕ) (text : List ℕ) (writes writes' : ℕ) (before after : Option (List ℕ)) (status : ℕ) : Type 0 where
-  pub sent : ((status ≡ said) × Wrote before after text) ⊎ ((status ≡ 5) × (WroteFront before after text × Rose writes writes'))
-  pub grows : writes ≤ writes'
+-- A text goes out whole beside its status. Or a write fails, which is counted, and a front of the text went out.
+pub record Ends (said : Status) (text : List ℕ) (old new : SinkState) (ended : Status) : Type 0 where
+  pub sent : ((ended ≡ said) × SendsWhole old new text) ⊎ ((ended ≡ status.Unwritten) × SendsPart old new text)
+  pub grows : old.faults ≤ new.faults
 
--- A call says something, and sends it.
-pub record Answered (names : Option Names) (content : List ℕ → Option (List ℕ)) (reads reads' writes writes' : ℕ) (before after : Option (List ℕ)) (status : ℕ) : Type 0 where
-  pub said : ℕ
+-- a call says something, and sends it
+pub record Answers (names : Option Names) (old new : FilesState) (out out' : SinkState) (ended : Status) : Type 0 where
+  pub said : Status
   pub text : List ℕ
-  pub says : Says names content reads reads' said text
-  pub ends : Ends said text writes writes' before after status
-  pub grows : reads ≤ reads'
+  pub says : Says names old new said text
+  pub ends : Ends said text out out' ended
+  pub grows : old.faults ≤ new.faults
+
+-- a call answers the number of the status that it ends with
+pub record Answered (names : Option Names) (old new : FilesState) (out out' : SinkState) (number : ℕ) : Type 0 where
+  pub ended : Status
+  pub number_is : number ≡ status_number ended
+  pub answers : Answers names old new out out' ended
 
 -- what the run of inputs says
-pub record Replayed (inputs : Inputs) (writes writes' : ℕ) (before after : Option (List ℕ)) (status : ℕ) : Type 0 where
-  pub said : ℕ
+pub record Replayed (inputs : Inputs) (old new : SinkState) (ended : Status) : Type 0 where
+  pub said : Status
   pub text : List ℕ
   pub says : RunsTo inputs said text ⊎ IsWant said text
-  pub ends : Ends said text writes writes' before after status
+  pub ends : Ends said text old new ended
 
 -- the files tell these texts
-pub record Tells (content : List ℕ → Option (List ℕ)) (names : Names) (texts : Texts) : Type 0 where
-  pub settings : content names.settings ≡ Some texts.settings
-  pub schedule : content names.schedule ≡ Some texts.schedule
-  pub script : content names.script ≡ Some texts.script
+pub record Tells (files : FilesState) (names : Names) (texts : Texts) : Type 0 where
+  pub settings : files.content names.settings ≡ Some texts.settings
+  pub schedule : files.content names.schedule ≡ Some texts.schedule
+  pub script : files.content names.script ≡ Some texts.script
+
+-- the number of a call that ran its inputs, or that wanted memory
+abbrev pub IsRunNumber : ℕ → Type 0
+IsRunNumber number = (number ≡ status_number status.Done) ⊎ ((number ≡ status_number status.Short) ⊎ (number ≡ status_number status.NoMemory))
 
 -- Where the words are served, the files tell inputs that are good, and no fault was counted, the script was run, unless memory was wanted.
-abbrev pub Completes : Option Names → (List ℕ → Option (List ℕ)) → ℕ → ℕ → ℕ → ℕ → ℕ → Type 0
-Completes None content reads reads' writes writes' status = Unit {0}
-Completes (Some names) content reads reads' writes writes' status =
-    (texts : Texts) (inputs : Inputs) → Tells content names texts → inputs_of texts ≡ Ok inputs → ¬ Rose reads reads' → ¬ Rose writes writes'
-    → (status ≡ 0) ⊎ ((status ≡ 6) ⊎ (status ≡ 7))
+abbrev pub Completes : Option Names → FilesState → FilesState → SinkState → SinkState → ℕ → Type 0
+Completes None old new out out' number = Unit {0}
+Completes (Some names) old new out out' number =
+    (texts : Texts) (inputs : Inputs) → Tells old names texts → inputs_of texts ≡ Ok inputs → ¬ Rose old.faults new.faults → ¬ Rose out.faults out'.faults
+    → IsRunNumber number

@@ -9,6 +9,7 @@ use Rattle.mi_input.specs.Faults.{Fault, ◌>>=◌}
 use Rattle.mi_input.specs.Settings.{settings_in}
 use Rattle.mi_input.specs.Schedules.{schedule_in}
 use Rattle.mi_input.specs.Scripts.{script_in}
+use Rattle.mi_outside.specs.States.{FilesState}
 use Rattle.mi_table.specs.declared.faults.TableFault.{TableFault}
 use Rattle.mi_table.specs.Faults.{first_fault}
 use Rattle.mindex.specs.declared.refusals.Refusal.{Refusal}
@@ -40,28 +41,28 @@ pub record Texts : Type 0 where
 abbrev pub IsTextOf : Option (List ℕ) → List ℕ → Type 0
 IsTextOf told text = IfSome told (λ content. text ≡ content)
 
-pub record AreTextsOf (content : List ℕ → Option (List ℕ)) (names : Names) (texts : Texts) : Type 0 where
-  pub settings : IsTextOf (content names.settings) texts.settings
-  pub schedule : IsTextOf (content names.schedule) texts.schedule
-  pub script : IsTextOf (content names.script) texts.script
+pub record AreTextsOf (files : FilesState) (names : Names) (texts : Texts) : Type 0 where
+  pub settings : IsTextOf (files.content names.settings) texts.settings
+  pub schedule : IsTextOf (files.content names.schedule) texts.schedule
+  pub script : IsTextOf (files.content names.script) texts.script
 
 -- a fault with the place of its file
-abbrev pub located : {X : Type 0} → ℕ → Result X Fault → Result X Refusal
-located file (Ok x) = Ok x
-located file (Err fault) = Err (Record file fault.number fault.why)
+abbrev pub at_file : {X : Type 0} → ℕ → Result X Fault → Result X Refusal
+at_file file (Ok x) = Ok x
+at_file file (Err fault) = Err (Record file fault.number fault.why)
 
 -- what is found in a file: nothing is looked for in one that is too large
 abbrev pub in_file : {X : Type 0} → ℕ → (List ℕ → Result X Fault) → List ℕ → Result X Refusal
 in_file file read text =
-    if nat_le (length text) MAX_FILE_SIZE then located file (read text) else Err (Record file 0 Large)
+    if nat_le (length text) MAX_FILE_SIZE then at_file file (read text) else Err (Record file 0 Large)
 
 -- settings have a metric, unless their table has a fault
-abbrev pub checked : Configuration → Option TableFault → Result Configuration Refusal
-checked c None = Ok c
-checked c (Some fault) = Err (Table fault)
+abbrev pub settings_or_fault : Configuration → Option TableFault → Result Configuration Refusal
+settings_or_fault c None = Ok c
+settings_or_fault c (Some fault) = Err (Table fault)
 
 abbrev pub settings_of : Texts → Result Configuration Refusal
-settings_of texts = in_file 0 settings_in texts.settings >>= λ c. checked c (first_fault c.rows)
+settings_of texts = in_file 0 settings_in texts.settings >>= λ c. settings_or_fault c (first_fault c.rows)
 
 abbrev pub schedule_of : Texts → Result (List ScheduleItem) Refusal
 schedule_of texts = in_file 1 (schedule_in 1) texts.schedule

@@ -34,9 +34,7 @@ impl<'a, R: SystemFiles> RealFiles<'a, R> {
 }
 
 impl<R: SystemFiles> Files for RealFiles<'_, R> {
-    ghost content = { λ _ _. None };
-
-    ghost faults = { λ f. f.faults };
+    ghost state = { λ f. record { content = λ _. None; faults = f.faults } };
 
     fn read(&mut self, name: &str, into: &mut Vec<u8>) -> Result<(), ReadRefusal> {
         match self.read_bounded(name, into) {
@@ -68,9 +66,7 @@ impl<W: Write> RealOut<W> {
 }
 
 impl<W: Write> Sink for RealOut<W> {
-    ghost written = { λ _. None };
-
-    ghost faults = { λ s. s.faults };
+    ghost state = { λ s. record { written = None; faults = s.faults } };
 
     fn write(&mut self, piece: &[u8]) -> Result<usize, SinkFailed> {
         match self.writer.write(piece) {

@@ -1,10 +1,11 @@
 //! Reads the files of a call, in the order of the words.
-ghost use Rattle.std.specs.Prelude.{◌≡◌, ℕ, List, IfOk};
+ghost use Rattle.std.specs.Prelude.{◌≡◌, IfOk};
 ghost use Rattle.mi_base.specs.Configuration.{metric_space};
 ghost use Rattle.mi_base.specs.Scripts.{IsScriptOver};
 ghost use Rattle.mi_input.specs.Schedules.{schedule_in};
 ghost use Rattle.mi_input.specs.Scripts.{script_in};
 ghost use Rattle.mi_input.specs.Settings.{settings_in};
+ghost use Rattle.mi_outside.specs.Outside.{KeepsContents};
 ghost use Rattle.mindex.specs.Inputs.{in_file};
 ghost use Rattle.mindex.specs.Loading.{HasMetric, Loads, LoadsAll, fault_stop, refusal_stop};
 
@@ -49,8 +50,8 @@ fn fault_of(file: u32, fault: InputFault) -> Stop
 }
 
 fn load_settings<F: Files>(alloc: Global, name: &str, files: &mut F) -> Result<Settings, Stop>
-    ensures loads { Loads (F.content files.old name.now) 0 (F.faults files.old) (F.faults files.new) (in_file 0 settings_in) result }
-    ensures contents { (n : List ℕ) → F.content files.new n ≡ F.content files.old n }
+    ensures loads { Loads (F.state files.old) (F.state files.new) name.now 0 (in_file 0 settings_in) result }
+    ensures contents { KeepsContents (F.state files.old) (F.state files.new) }
 {
     let mut bytes = Vec::new(alloc);
     match files.read(name, &mut bytes) {
@@ -63,8 +64,8 @@ fn load_settings<F: Files>(alloc: Global, name: &str, files: &mut F) -> Result<S
 }
 
 fn load_schedule<F: Files>(alloc: Global, name: &str, files: &mut F) -> Result<Schedule, Stop>
-    ensures loads { Loads (F.content files.old name.now) 1 (F.faults files.old) (F.faults files.new) (in_file 1 (schedule_in 1)) result }
-    ensures contents { (n : List ℕ) → F.content files.new n ≡ F.content files.old n }
+    ensures loads { Loads (F.state files.old) (F.state files.new) name.now 1 (in_file 1 (schedule_in 1)) result }
+    ensures contents { KeepsContents (F.state files.old) (F.state files.new) }
 {
     let mut bytes = Vec::new(alloc);
     match files.read(name, &mut bytes) {
@@ -82,8 +83,8 @@ fn load_script<F: Files>(
     settings: &Settings,
     files: &mut F,
 ) -> Result<Script, Stop>
-    ensures loads { Loads (F.content files.old name.now) 2 (F.faults files.old) (F.faults files.new) (in_file 2 (script_in settings.now)) result }
-    ensures contents { (n : List ℕ) → F.content files.new n ≡ F.content files.old n }
+    ensures loads { Loads (F.state files.old) (F.state files.new) name.now 2 (in_file 2 (script_in settings.now)) result }
+    ensures contents { KeepsContents (F.state files.old) (F.state files.new) }
     ensures script { IfOk result (IsScriptOver (metric_space settings.now)) }
 {
     let mut bytes = Vec::new(alloc);
@@ -114,8 +115,8 @@ pub fn load<F: Files>(
     script_name: &str,
     files: &mut F,
 ) -> Result<Loaded, Stop>
-    ensures loads { LoadsAll (record { settings = settings_name.now; schedule = schedule_name.now; script = script_name.now }) (F.content files.old) (F.faults files.old) (F.faults files.new) result }
-    ensures contents { (n : List ℕ) → F.content files.new n ≡ F.content files.old n }
+    ensures loads { LoadsAll (record { settings = settings_name.now; schedule = schedule_name.now; script = script_name.now }) (F.state files.old) (F.state files.new) result }
+    ensures contents { KeepsContents (F.state files.old) (F.state files.new) }
 {
     let settings = load_settings(alloc, settings_name, files)?;
     let metric = metric_of(alloc, &settings)?;

@@ -1,8 +1,9 @@
 //! An exact similarity index in memory: replays scripts of updates and queries.
 #![tactic(auto)]
 
-ghost use Rattle.std.specs.Prelude.{◌≡◌, ℕ, List, map};
+ghost use Rattle.std.specs.Prelude.{map};
 ghost use Rattle.std.specs.String.{string_bytes};
+ghost use Rattle.mi_outside.specs.Outside.{KeepsContents};
 ghost use Rattle.mindex.specs.Calls.{Answered, Completes};
 ghost use Rattle.mindex.specs.Inputs.{names_in};
 
@@ -10,6 +11,7 @@ mod adapters;
 mod loading;
 mod refusals;
 mod replaying;
+mod statuses;
 #[cfg(test)]
 mod tests;
 mod texts;
@@ -34,9 +36,9 @@ pub fn mindex<R: Threads + Wait + Sync, F: Files, S: Sink, G: Gate>(
     out: &mut S,
     _gate: &G,
 ) -> u8
-    ensures answered { Answered (names_in (map string_bytes words.now)) (F.content files.old) (F.faults files.old) (F.faults files.new) (S.faults out.old) (S.faults out.new) (S.written out.old) (S.written out.new) result }
-    ensures complete { Completes (names_in (map string_bytes words.now)) (F.content files.old) (F.faults files.old) (F.faults files.new) (S.faults out.old) (S.faults out.new) result }
-    ensures contents { (n : List ℕ) → F.content files.new n ≡ F.content files.old n }
+    ensures answered { Answered (names_in (map string_bytes words.now)) (F.state files.old) (F.state files.new) (S.state out.old) (S.state out.new) result }
+    ensures complete { Completes (names_in (map string_bytes words.now)) (F.state files.old) (F.state files.new) (S.state out.old) (S.state out.new) result }
+    ensures contents { KeepsContents (F.state files.old) (F.state files.new) }
 {
     replay_call(alloc, words, files, out)
 }
@@ -51,7 +53,7 @@ fn main(rt: HostRuntime) -> ExitCode {
     let words = match words_of(&rt) {
         Ok(words) => words,
         Err(error) if error.kind() == ErrorKind::OutOfMemory => {
-            return ExitCode::from(stopped(Stop::Memory, &mut out));
+            return ExitCode::from(stopped(Stop::Memory, &mut out).number());
         }
         // Words that can't be had as text are no words, which no command is.
         Err(_) => Vec::new(rt.alloc()),

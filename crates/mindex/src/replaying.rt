@@ -1,51 +1,57 @@
 //! The command that replays scripts.
-ghost use Rattle.std.specs.Prelude.{◌≡◌, ℕ, List, OnErr, OnOk, IsTrue, is_some, length, map};
+ghost use Rattle.std.specs.Prelude.{◌≡◌, OnErr, OnOk, IsTrue, is_some, length, map};
 ghost use Rattle.std.specs.String.{string_bytes};
-ghost use Rattle.mindex.specs.Calls.{Answered, Completes, Ends, Replayed};
+ghost use Rattle.mi_outside.specs.Outside.{KeepsContents};
+ghost use Rattle.mindex.specs.Calls.{Answered, Answers, Completes, Ends, Replayed};
 ghost use Rattle.mindex.specs.Inputs.{names_in};
 ghost use Rattle.mindex.specs.Loading.{MayRun, inputs_in, stop_line, stop_status};
 
 use crate::loading::{Loaded, load};
 use crate::refusals::Stop;
+use crate::statuses::Status;
 use crate::texts::{refusal_status, send_memory, send_refusal, send_unread, send_usage};
 use mi_outside::{Files, Sink, SinkFailed};
 use mi_plain::run_script;
 use mi_print::render;
 use std::alloc::Global;
 
-/// The status of a text that was sent whole, or 5.
-fn ended(said: u8, sent: Result<(), SinkFailed>) -> u8
+/// The status of a text that was sent whole, or else that of a failed write.
+fn ended(said: Status, sent: Result<(), SinkFailed>) -> Status
     ensures ok { OnOk sent (result ≡ said) }
-    ensures err { OnErr sent (result ≡ 5) }
+    ensures err { OnErr sent (result ≡ Status.Unwritten) }
 {
     match sent {
         Ok(()) => said,
-        Err(SinkFailed) => 5,
+        Err(SinkFailed) => Status::Unwritten,
     }
 }
 
 /// Runs the script and sends what comes of it: the transcript, or the line of want of memory.
-fn replay_inputs<S: Sink>(alloc: Global, inputs: &Loaded, out: &mut S) -> u8
+fn replay_inputs<S: Sink>(alloc: Global, inputs: &Loaded, out: &mut S) -> Status
     requires { MayRun inputs.now }
-    ensures { Replayed (inputs_in inputs.now) (S.faults out.old) (S.faults out.new) (S.written out.old) (S.written out.new) result }
+    ensures { Replayed (inputs_in inputs.now) (S.state out.old) (S.state out.new) result }
 {
     match run_script(alloc, &inputs.settings, &inputs.metric, &inputs.script) {
         Ok(outcome) => {
-            let said = if outcome.short { 6 } else { 0 };
+            let said = if outcome.short {
+                Status::Short
+            } else {
+                Status::Done
+            };
             ended(said, render(&outcome, out))
         }
-        Err(_) => ended(7, send_memory(out)),
+        Err(_) => ended(Status::NoMemory, send_memory(out)),
     }
 }
 
 /// Sends the line of a call without inputs.
-pub fn stopped<S: Sink>(stop: Stop, out: &mut S) -> u8
-    ensures { Ends (stop_status stop) (stop_line stop) (S.faults out.old) (S.faults out.new) (S.written out.old) (S.written out.new) result }
+pub fn stopped<S: Sink>(stop: Stop, out: &mut S) -> Status
+    ensures { Ends (stop_status stop) (stop_line stop) (S.state out.old) (S.state out.new) result }
 {
     match stop {
         Stop::Refused(refusal) => ended(refusal_status(refusal), send_refusal(refusal, out)),
-        Stop::Unread { file } => ended(4, send_unread(file, out)),
-        Stop::Memory => ended(7, send_memory(out)),
+        Stop::Unread { file } => ended(Status::Unread, send_unread(file, out)),
+        Stop::Memory => ended(Status::NoMemory, send_memory(out)),
     }
 }
 
@@ -57,12 +63,17 @@ fn are_served(words: &[String]) -> bool
     words.len() == 4 && words[0].as_str() == "replay"
 }
 
-fn answer_call<F: Files, S: Sink>(alloc: Global, words: &[String], files: &mut F, out: &mut S) -> u8
-    ensures answered { Answered (names_in (map string_bytes words.now)) (F.content files.old) (F.faults files.old) (F.faults files.new) (S.faults out.old) (S.faults out.new) (S.written out.old) (S.written out.new) result }
-    ensures contents { (n : List ℕ) → F.content files.new n ≡ F.content files.old n }
+fn answer_call<F: Files, S: Sink>(
+    alloc: Global,
+    words: &[String],
+    files: &mut F,
+    out: &mut S,
+) -> Status
+    ensures answers { Answers (names_in (map string_bytes words.now)) (F.state files.old) (F.state files.new) (S.state out.old) (S.state out.new) result }
+    ensures contents { KeepsContents (F.state files.old) (F.state files.new) }
 {
     if !are_served(words) {
-        return ended(1, send_usage(out));
+        return ended(Status::Usage, send_usage(out));
     }
     let settings = words[1].as_str();
     let schedule = words[2].as_str();
@@ -81,10 +92,10 @@ pub fn replay_call<F: Files, S: Sink>(
     out: &mut S,
 ) -> u8
     // What is said, and which status and which bytes come of it.
-    ensures answered { Answered (names_in (map string_bytes words.now)) (F.content files.old) (F.faults files.old) (F.faults files.new) (S.faults out.old) (S.faults out.new) (S.written out.old) (S.written out.new) result }
+    ensures answered { Answered (names_in (map string_bytes words.now)) (F.state files.old) (F.state files.new) (S.state out.old) (S.state out.new) result }
     // Good inputs are run.
-    ensures complete { Completes (names_in (map string_bytes words.now)) (F.content files.old) (F.faults files.old) (F.faults files.new) (S.faults out.old) (S.faults out.new) result }
-    ensures contents { (n : List ℕ) → F.content files.new n ≡ F.content files.old n }
+    ensures complete { Completes (names_in (map string_bytes words.now)) (F.state files.old) (F.state files.new) (S.state out.old) (S.state out.new) result }
+    ensures contents { KeepsContents (F.state files.old) (F.state files.new) }
 {
-    answer_call(alloc, words, files, out)
+    answer_call(alloc, words, files, out).number()
 }

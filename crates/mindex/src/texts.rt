@@ -6,6 +6,7 @@ ghost use Rattle.mi_outside.specs.Outside.{Sends};
 ghost use Rattle.mindex.specs.Calls.{fault_line, memory_line, reason_word, refusal_line, refusal_status, table_line, unread_line, usage_line};
 
 use crate::refusals::Refusal;
+use crate::statuses::Status;
 use mi_input::Reason;
 use mi_outside::{Sink, SinkFailed, write_all};
 use mi_print::{Line, send_numbers};
@@ -13,7 +14,7 @@ use mi_table::TableFault;
 
 /// Sends the line of words that aren't served.
 pub fn send_usage<S: Sink>(out: &mut S) -> Result<(), SinkFailed>
-    ensures { Sends (S.written out.old) (S.faults out.old) result (S.written out.new) (S.faults out.new) usage_line }
+    ensures { Sends (S.state out.old) (S.state out.new) usage_line result }
 {
     write_all(
         out,
@@ -23,14 +24,14 @@ pub fn send_usage<S: Sink>(out: &mut S) -> Result<(), SinkFailed>
 
 /// Sends the line of want of memory.
 pub fn send_memory<S: Sink>(out: &mut S) -> Result<(), SinkFailed>
-    ensures { Sends (S.written out.old) (S.faults out.old) result (S.written out.new) (S.faults out.new) memory_line }
+    ensures { Sends (S.state out.old) (S.state out.new) memory_line result }
 {
     write_all(out, b"memory\n")
 }
 
 /// Sends the line of a file that could not be read.
 pub fn send_unread<S: Sink>(file: u32, out: &mut S) -> Result<(), SinkFailed>
-    ensures { Sends (S.written out.old) (S.faults out.old) result (S.written out.new) (S.faults out.new) (unread_line file) }
+    ensures { Sends (S.state out.old) (S.state out.new) (unread_line file) result }
 {
     send_numbers("unread", &[file as u64], out)
 }
@@ -68,7 +69,7 @@ fn begin_fault(file: u32, number: u32, word: &str) -> Line
 fn send_places<S: Sink>(word: &str, places: &[u32], out: &mut S) -> Result<(), SinkFailed>
     requires word { length word.now ≤ 10 }
     requires few { length places.now ≤ 3 }
-    ensures { Sends (S.written out.old) (S.faults out.old) result (S.written out.new) (S.faults out.new) (fault_line 0 0 word.now (map decimal places.now)) }
+    ensures { Sends (S.state out.old) (S.state out.new) (fault_line 0 0 word.now (map decimal places.now)) result }
 {
     let mut line = begin_fault(0, 0, word);
     for place in places {
@@ -78,7 +79,7 @@ fn send_places<S: Sink>(word: &str, places: &[u32], out: &mut S) -> Result<(), S
 }
 
 fn send_table_fault<S: Sink>(fault: TableFault, out: &mut S) -> Result<(), SinkFailed>
-    ensures { Sends (S.written out.old) (S.faults out.old) result (S.written out.new) (S.faults out.new) (table_line fault) }
+    ensures { Sends (S.state out.old) (S.state out.new) (table_line fault) result }
 {
     match fault {
         TableFault::NotSquare { row } => send_places("notsquare", &[row], out),
@@ -92,7 +93,7 @@ fn send_table_fault<S: Sink>(fault: TableFault, out: &mut S) -> Result<(), SinkF
 
 /// Sends the line of the first thing that is wrong with the files.
 pub fn send_refusal<S: Sink>(refusal: Refusal, out: &mut S) -> Result<(), SinkFailed>
-    ensures { Sends (S.written out.old) (S.faults out.old) result (S.written out.new) (S.faults out.new) (refusal_line refusal) }
+    ensures { Sends (S.state out.old) (S.state out.new) (refusal_line refusal) result }
 {
     match refusal {
         Refusal::Record { file, number, why } => {
@@ -102,12 +103,12 @@ pub fn send_refusal<S: Sink>(refusal: Refusal, out: &mut S) -> Result<(), SinkFa
     }
 }
 
-/// 2 for the settings and their table, 3 for the other files.
-pub fn refusal_status(refusal: Refusal) -> u8
+/// The settings and their table have a status of their own.
+pub fn refusal_status(refusal: Refusal) -> Status
     ensures { result ≡ refusal_status refusal }
 {
     match refusal {
-        Refusal::Record { file, .. } if file > 0 => 3,
-        Refusal::Record { .. } | Refusal::Table(_) => 2,
+        Refusal::Record { file, .. } if file > 0 => Status::BadFile,
+        Refusal::Record { .. } | Refusal::Table(_) => Status::BadSettings,
     }
 }

@@ -6,7 +6,7 @@ use Rattle.mi_outside.proofs.writing.write_all.Given as goal
 abbrev pub invariant-loop-sent : goal.invariant-loop-sent
 invariant-loop-sent g l = record {
   within : l.sent ≤ length l.piece;
-  sends : Sends (g.S.Sink.written l.initial.out) (g.S.Sink.faults l.initial.out) (Ok tt) (g.S.Sink.written l.out) (g.S.Sink.faults l.out) (take l.sent l.piece);
+  sends : Sends (g.S.Sink.state l.initial.out) (g.S.Sink.state l.out) (take l.sent l.piece) (Ok tt);
 }
 
 abbrev pub decreases-loop-sent : goal.decreases-loop-sent

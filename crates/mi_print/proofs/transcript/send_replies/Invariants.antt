@@ -7,5 +7,5 @@ use Rattle.mi_print.proofs.transcript.send_replies.Given as goal
 -- the lines of the items so far were sent
 abbrev pub invariant-loop-reply : goal.invariant-loop-reply
 invariant-loop-reply g l =
-    Sends (g.S.Sink.written l.fn.out) (g.S.Sink.faults l.fn.out) (Ok tt) (g.S.Sink.written l.out) (g.S.Sink.faults l.out) (flat_map reply_lines (take l.reply-index l.reply-items))
+    Sends (g.S.Sink.state l.fn.out) (g.S.Sink.state l.out) (flat_map reply_lines (take l.reply-index l.reply-items)) (Ok tt)
     × (l.reply-items ≡ l.initial.reply-items)

@@ -7,5 +7,5 @@ use Rattle.mi_print.proofs.transcript.send_rows.Given as goal
 -- the lines of the items so far were sent
 abbrev pub invariant-loop-row : goal.invariant-loop-row
 invariant-loop-row g l =
-    Sends (g.S.Sink.written l.fn.out) (g.S.Sink.faults l.fn.out) (Ok tt) (g.S.Sink.written l.out) (g.S.Sink.faults l.out) (flat_map row_line (take l.row-index l.row-items))
+    Sends (g.S.Sink.state l.fn.out) (g.S.Sink.state l.out) (flat_map row_line (take l.row-index l.row-items)) (Ok tt)
     × (l.row-items ≡ l.initial.row-items)

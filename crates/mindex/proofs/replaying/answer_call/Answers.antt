@@ -1,35 +1,34 @@
-use Rattle.std.proofs.Common.{◌∙◌, map, sym, arith}
+use Rattle.std.proofs.Common.{◌∙◌, map, sym}
 use Rattle.std.specs.String.{string_bytes}
+use Rattle.mindex.specs.declared.statuses.Status.TheVariants as status
 use Rattle.mindex.specs.Calls.{usage_line}
 use Rattle.mindex.specs.Inputs.{Names, names_in}
 use Rattle.mindex.proofs.CallLemmas.{ends_from, named_words, says_run, says_stop, says_usage}
 use Rattle.mindex.proofs.replaying.answer_call.Goals as goal
 
-pub returns-then-not-are_served-clause-answered : goal.returns-then-not-are_served-clause-answered
-returns-then-not-are_served-clause-answered g c =
-    says_usage (names_in (map string_bytes c.args.words.now)) (g.F.Files.content c.args.files.now) (g.F.Files.faults c.args.files.now) (g.F.Files.faults c.args.files.now)
-    (g.S.Sink.faults c.args.out.now) (g.S.Sink.faults c.send_usage.new.out) c.ended.result (g.S.Sink.written c.args.out.now) (g.S.Sink.written c.send_usage.new.out)
+pub returns-then-not-are_served-clause-answers : goal.returns-then-not-are_served-clause-answers
+returns-then-not-are_served-clause-answers g c =
+    says_usage (names_in (map string_bytes c.args.words.now)) (g.F.Files.state c.args.files.now) (g.S.Sink.state c.args.out.now) (g.S.Sink.state c.send_usage.new.out) c.ended.result
     (sym c.are_served.ensures.served ∙ c.if-not-are_served.true)
-    (ends_from 1 c.ended.result usage_line (g.S.Sink.written c.args.out.now) (g.S.Sink.written c.send_usage.new.out) (g.S.Sink.faults c.args.out.now) (g.S.Sink.faults c.send_usage.new.out)
+    (ends_from status.Usage c.ended.result usage_line (g.S.Sink.state c.args.out.now) (g.S.Sink.state c.send_usage.new.out)
     c.send_usage.result c.send_usage.ensures c.ended.ensures.ok c.ended.ensures.err)
-    (omega arith)
 
-pub returns-in-Ok-clause-answered : goal.returns-in-Ok-clause-answered
-returns-in-Ok-clause-answered g c =
+pub returns-in-Ok-clause-answers : goal.returns-in-Ok-clause-answers
+returns-in-Ok-clause-answers g c =
     let names : Names = record { settings = c.as_str-settings.result.now; schedule = c.as_str-schedule.result.now; script = c.as_str-script.result.now } in
     let served = named_words string_bytes c.args.words.now c.index-words-1.result c.index-words-2.result c.index-words-3.result names
     (sym c.are_served.ensures.served ∙ c.if-not-are_served.false) (c.are_served.ensures.four c.if-not-are_served.false)
     c.index-words-1.is c.index-words-2.is c.index-words-3.is c.as_str-settings.ensures.value c.as_str-schedule.ensures.value c.as_str-script.ensures.value in
-    says_run (names_in (map string_bytes c.args.words.now)) names (g.F.Files.content c.args.files.now) (g.F.Files.faults c.args.files.now) (g.F.Files.faults c.load.new.files)
-    (g.S.Sink.faults c.args.out.now) (g.S.Sink.faults c.replay_inputs.new.out) c.replay_inputs.result (g.S.Sink.written c.args.out.now) (g.S.Sink.written c.replay_inputs.new.out)
+    says_run (names_in (map string_bytes c.args.words.now)) names (g.F.Files.state c.args.files.now) (g.F.Files.state c.load.new.files)
+    (g.S.Sink.state c.args.out.now) (g.S.Sink.state c.replay_inputs.new.out) c.replay_inputs.result
     c.in-Ok.inputs served c.in-Ok.ensures.loads c.replay_inputs.ensures
 
-pub returns-in-Err-clause-answered : goal.returns-in-Err-clause-answered
-returns-in-Err-clause-answered g c =
+pub returns-in-Err-clause-answers : goal.returns-in-Err-clause-answers
+returns-in-Err-clause-answers g c =
     let names : Names = record { settings = c.as_str-settings.result.now; schedule = c.as_str-schedule.result.now; script = c.as_str-script.result.now } in
     let served = named_words string_bytes c.args.words.now c.index-words-1.result c.index-words-2.result c.index-words-3.result names
     (sym c.are_served.ensures.served ∙ c.if-not-are_served.false) (c.are_served.ensures.four c.if-not-are_served.false)
     c.index-words-1.is c.index-words-2.is c.index-words-3.is c.as_str-settings.ensures.value c.as_str-schedule.ensures.value c.as_str-script.ensures.value in
-    says_stop (names_in (map string_bytes c.args.words.now)) names (g.F.Files.content c.args.files.now) (g.F.Files.faults c.args.files.now) (g.F.Files.faults c.load.new.files)
-    (g.S.Sink.faults c.args.out.now) (g.S.Sink.faults c.stopped.new.out) c.stopped.result (g.S.Sink.written c.args.out.now) (g.S.Sink.written c.stopped.new.out)
+    says_stop (names_in (map string_bytes c.args.words.now)) names (g.F.Files.state c.args.files.now) (g.F.Files.state c.load.new.files)
+    (g.S.Sink.state c.args.out.now) (g.S.Sink.state c.stopped.new.out) c.stopped.result
     c.in-Err.stop served c.in-Err.ensures.loads c.stopped.ensures
