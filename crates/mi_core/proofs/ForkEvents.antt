@@ -163,6 +163,7 @@ module _ (s : State) (k : Sound s) (floor : Position) (at : IsPosition s.board.l
         (entries_stay s.actors actors' works s.board.settings s.board.log (events_at (floor_of s.board)) s.board.retired (all_entries (forest_of s.board s.pages s.actors k.chain)) k.entries);
     each = each';
     retired = retired' s.board.retired k.retired;
+    order = k.order;
     sixteen = k.sixteen;
     holders = λ n b h. let o = k.holders n b h in record { actor = o.actor; there = get_more s.actors (m ∷ []) b o.actor o.there; shard = o.shard };
     claims = λ b d t u p eb ed cb cd. k.claims b d t u p (old_one (λ t. t.claim) refl b t p eb cb) (old_one (λ t. t.claim) refl d u p ed cd) cb cd;

@@ -177,6 +177,7 @@ module _ (s : State) (k : Sound s) (a : ℕ) (r : Actor) (there : slice_get s.ac
     entries = entries';
     each = each_set s.actors a r q there (λ b t. Suits b' s.shards s.pages b t) own' others';
     retired = retired_by s.actors a r q there refl log s.board.retired k.retired;
+    order = k.order;
     sixteen = k.sixteen;
     holders = λ n b h. holders_by s.actors a r q there refl n b (k.holders n b h);
     claims = claims_end s.actors a r q there refl k.claims;

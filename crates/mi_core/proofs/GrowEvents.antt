@@ -171,6 +171,7 @@ module _ (s : State) (k : Sound s) (a : ℕ) (r : Actor) (there : slice_get s.ac
         (entries_stay s.actors actors' (works_by s.actors a r q there refl refl) s.board.settings s.board.log (events_at (floor_of s.board)) s.board.retired (all_entries old) k.entries);
     each = each_set s.actors a r q there (λ b t. Suits b' s.shards pages' b t) own' others';
     retired = retired_by s.actors a r q there refl s.board.log s.board.retired k.retired;
+    order = k.order;
     sixteen = k.sixteen;
     holders = λ n b h. holders_by s.actors a r q there refl n b (k.holders n b h);
     claims = claims_by s.actors a r q there refl k.claims;

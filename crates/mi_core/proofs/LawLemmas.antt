@@ -76,6 +76,6 @@ event_keeps (uncopy page node e told) = λ s k a r there can.
     uncopy_keeps s k a r there page node can.0 can.1 can.2 can.3 can.4 can.5 e (can.6 ∙ copy_is s k a r there can.1 can.2 (can.1.copied - 1) can.4 can.5) can.7 told
 event_keeps (give_up pages) = λ s k a r there can. give_up_keeps s k a r there pages can.0 can.1 can.2 can.3
 event_keeps (take_sweep l) = λ s k a r there can. let n = next_swept (at_position s.board.log (floor_of s.board)) s.board.retired l can.1 in take_sweep_keeps s k a r there l n.0 can.0 n.1 n.2
-event_keeps (take_split l) = λ s k a r there can. take_split_keeps s k a r there l (subst (MayClaim s r) can.4 (next_may s r can.0 can.2 can.3))
+event_keeps (take_split l) = λ s k a r there can. take_split_keeps s k a r there l (subst (MayClaim s r) can.4 (next_may s can.2 can.3 r can.0))
 event_keeps fork = λ s k a r there can. fork_keeps s k a r there
 event_keeps (absorb b t) = λ s k a r there can. absorb_keeps s k a r there b t can.0 can.1

@@ -41,3 +41,4 @@ pub mod NextLemmas
 pub mod FrameEvents
 pub mod RefusalLemmas
 pub mod StraightLemmas
+pub mod ReachLemmas

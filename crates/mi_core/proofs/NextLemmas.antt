@@ -37,7 +37,7 @@ unclaimed_by p (x ∷ actors) h (suc a) e = unclaimed_by p actors (rest (is_clai
     rest true d h = absurd (false≢true (sym h))
     rest false d h = h
 
-module _ (s : State) (r : Actor) (free : IsFree r) (leaf : Leaf) (next : next_split s.board ≡ Some leaf) where
+module _ (s : State) (leaf : Leaf) (next : next_split s.board ≡ Some leaf) where
   found : (is_open s.board leaf ≡ true) × IsOne leaf (cells_of s.board.settings s.board.log)
   found = find_in (is_open s.board) (cells_of s.board.settings s.board.log) leaf next
 
@@ -47,8 +47,8 @@ module _ (s : State) (r : Actor) (free : IsFree r) (leaf : Leaf) (next : next_sp
       let o = and_parts (not (list_any (λ x. is_claim leaf.prefix x.claim) s.board.actors)) _ w.1 in
       (w.0, not_false _ o.0)
 
-  pub next_may : MayClaim s r leaf.prefix
-  next_may = record {
+  pub next_may : (r : Actor) → IsFree r → MayClaim s r leaf.prefix
+  next_may r free = record {
     free = free;
     leaf = any_one (λ l. same_cell leaf.prefix l.prefix) (cells_of s.board.settings s.board.log) leaf found.1 (same_self leaf.prefix);
     unclaimed = parts.1;

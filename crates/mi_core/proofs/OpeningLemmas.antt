@@ -117,6 +117,7 @@ module _ (c : Configuration) (limits : IsWithinLimits c) (metric : IsMetric (met
     };
     each = suits;
     retired = tt;
+    order = refl;
     sixteen = length-replicate 16 no_shard;
     holders = λ k a h. absurd (none-some a (sym (ap (λ (z : Shard). z.holder) (or_copy 16 k no_shard)) ∙ h));
     claims = λ a b r t p e f g h. absurd (none-some p (ap (λ (z : Actor). z.claim) (get_copy count a first_actor r e) ∙ g));

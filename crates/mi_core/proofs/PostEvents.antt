@@ -62,6 +62,7 @@ module _ (s : State) (k : Sound s) (a : ℕ) (r : Actor) (there : slice_get s.ac
           (entries_stay s.actors actors' (works_stay s.actors a r q there same) s.board.settings s.board.log (events_at (floor_of s.board)) s.board.retired (all_entries (forest_of s.board s.pages s.actors k.chain)) k.entries);
       each = each_set s.actors a r q there (λ b t. Suits s.board s.shards pages' b t) own (λ b t n z. let o = k.each b t z in record { saw = o.saw; own = o.own; holds = o.holds; sweep = o.sweep; fresh = λ p f. let m = o.fresh p f in (m.0, fresh_kept p m.1) });
       retired = retired_stay s.actors a r q there same s.board.log s.board.retired k.retired;
+      order = k.order;
       sixteen = k.sixteen;
       holders = λ n b h. holders_stay s.actors a r q there same n b (k.holders n b h);
       claims = claims_stay s.actors a r q there same k.claims;

@@ -64,6 +64,7 @@ module _ (s : State) (k : Sound s) (a : ℕ) (r : Actor) (there : slice_get s.ac
     entries = entries_stay s.actors (set s.actors a q) (works_stay s.actors a r q there same) s.board.settings s.board.log (events_at (floor_of s.board)) s.board.retired (all_entries (forest_of s.board s.pages s.actors k.chain)) k.entries;
     each = each_set s.actors a r q there (λ b t. Suits s.board s.shards s.pages b t) own (λ b t n e. k.each b t e);
     retired = retired_stay s.actors a r q there same s.board.log s.board.retired k.retired;
+    order = k.order;
     sixteen = k.sixteen;
     holders = λ n b h. holders_stay s.actors a r q there same n b (k.holders n b h);
     claims = claims_stay s.actors a r q there same k.claims;
@@ -153,6 +154,7 @@ module _ (s : State) (k : Sound s) (a : ℕ) (r : Actor) (there : slice_get s.ac
       entries = entries_stay s.actors (set s.actors a q) works s.board.settings s.board.log (events_at (floor_of s.board)) s.board.retired (all_entries (forest_of s.board s.pages s.actors k.chain)) k.entries;
       each = each_set s.actors a r q there (λ b t. Suits s.board shards' s.pages b t) own others;
       retired = retired_by s.actors a r q there sweep s.board.log s.board.retired k.retired;
+      order = k.order;
       sixteen = length-set s.shards n (held_by holder kept) ∙ k.sixteen;
       holders = holders;
       claims = claims_by s.actors a r q there claim k.claims;

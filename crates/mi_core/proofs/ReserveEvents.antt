@@ -124,6 +124,7 @@ module _ (s : State) (k : Sound s) (a : ℕ) (r : Actor) (there : slice_get s.ac
         (entries_stay s.actors (set s.actors a q) (works_by s.actors a r q there refl refl) s.board.settings s.board.log (events_at (floor_of s.board)) s.board.retired (all_entries (forest_of s.board s.pages s.actors k.chain)) k.entries);
     each = each_set s.actors a r q there (λ b t. Suits b' shards' s.pages b t) own' others';
     retired = retired_by s.actors a r q there refl s.board.log s.board.retired k.retired;
+    order = k.order;
     sixteen = length-set s.shards n y ∙ k.sixteen;
     holders = λ m b h. holders_by s.actors a r q there refl m b (k.holders m b (sym (holder_same m) ∙ h));
     claims = claims_by s.actors a r q there refl k.claims;

@@ -94,6 +94,7 @@ module _ (s : State) (k : Sound s) (a : ℕ) (r : Actor) (there : slice_get s.ac
       entries = entries';
       each = each_set s.actors a r q there (λ b t. Suits s.board s.shards pages' b t) own others';
       retired = retired_stay s.actors a r q there same log s.board.retired k.retired;
+      order = k.order;
       sixteen = k.sixteen;
       holders = λ n b h. holders_stay s.actors a r q there same n b (k.holders n b h);
       claims = claims_stay s.actors a r q there same k.claims;

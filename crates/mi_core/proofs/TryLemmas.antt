@@ -1,24 +1,20 @@
 -- A first insert and a delete of it: what calls need can be met.
-use Rattle.std.proofs.Common.{ℤ, pos, List, [], ◌∷◌, Some, None, refl, arith}
+use Rattle.std.proofs.Common.{ℤ, pos, List, [], ◌∷◌, None, refl, arith}
 use Rattle.std.specs.Prelude.{slice_index_or}
 use Rattle.mi_base.specs.Configuration.{Configuration}
-use Rattle.mi_base.specs.declared.settings.MetricKind.TheVariants.{L1}
 use Rattle.mi_key.specs.declared.entries.Entry.{Entry}
 use Rattle.mi_core.specs.Effects.{put_entry}
+use Rattle.mi_core.specs.Law.{Here, Reaches, Step, small_settings}
 use Rattle.mi_page.specs.Nodes.{fresh_node}
 use Rattle.mi_entries.specs.Entries.{key_in, grid}
 use Rattle.mi_core.specs.Events.{Can, after, first_actor, opened}
-use Rattle.mi_core.specs.Events.Event.{claim_shard, reserve, claim_leaf, insert, delete, no_work, refuse, take_split}
-use Rattle.mi_core.specs.Refusals.Refusal.{held as held_leaf}
-use Rattle.mi_base.specs.declared.records.LogEvent.{LogEvent}
-use Rattle.mi_base.specs.declared.records.LogEvent.TheVariants.{Update as Made}
-use Rattle.mi_base.specs.declared.records.Update.TheVariants.{Insert as Put}
+use Rattle.mi_core.specs.Events.Event.{claim_shard, reserve, claim_leaf, insert, delete}
 use Rattle.mi_entries.specs.Actors.{Actor}
 use Rattle.mi_entries.specs.Records.{Rows, shard_at, no_shard}
-use Rattle.mi_core.specs.State.{State, put_board}
+use Rattle.mi_core.specs.State.{State}
 
 abbrev c : Configuration
-c = record { metric = L1; dims = 2; rows = []; pivots = []; levels = 0; cell = 4; updates = 8; pages = 4 }
+c = small_settings
 
 abbrev me : State → Actor
 me s = slice_index_or s.actors 0 first_actor
@@ -108,23 +104,16 @@ can_delete = record {
   key_is = refl;
 }
 
--- where nothing was put in, a splitter has nothing to do
-can_rest : Can s0 0 first_actor no_work
-can_rest = (record { claim = refl; sweep = refl }, refl, refl)
+abbrev pub s6 : State
+s6 = after s5 0 (me s5) (delete 2 7 0 (put_entry 0 e fresh_node) (shard_at s5.shards 7).rows e.key)
 
--- two objects in one cell of size 1 are split, and the splitter takes their leaf
-abbrev d : Configuration
-d = record { metric = L1; dims = 1; rows = []; pivots = (pos 0 ∷ []) ∷ (pos 9 ∷ []) ∷ []; levels = 2; cell = 1; updates = 8; pages = 4 }
-
-abbrev two : List LogEvent
-two = Made 0 1 (Put 1 (pos 1 ∷ [])) ∷ Made 0 2 (Put 2 (pos 2 ∷ [])) ∷ []
-
-abbrev t0 : State
-t0 = let s = opened d 1 3 in put_board (record s.board { log = two }) s
-
-can_split : Can t0 0 first_actor (take_split (0 ∷ []))
-can_split = (record { claim = refl; sweep = refl }, refl, record { prefix = 0 ∷ []; count = 2; hull = Some (1, 2) }, refl, refl)
-
--- an actor that holds the leaf keeps it from others, and from the splitter
-can_refuse : Can (after t0 0 first_actor (take_split (0 ∷ []))) 1 first_actor (refuse (held_leaf (0 ∷ []) 0))
-can_refuse = record { claim = refl; other = λ e. cc }
+-- all of these events, one after another
+pub came_and_went : Reaches s0 s6
+came_and_went =
+    Step s5 s6 0 (Step s4 s5 0 (Step s3 s4 0 (Step s2 s3 0 (Step s1 s2 0 (Step s0 s1 0 Here
+    (record { actor = first_actor; there = refl; going = refl; event = claim_shard 7 no_shard.rows; can = can_claim; is = refl }))
+    (record { actor = me s1; there = refl; going = refl; event = reserve 7 held 1; can = can_reserve; is = refl }))
+    (record { actor = me s2; there = refl; going = refl; event = claim_leaf []; can = can_leaf; is = refl }))
+    (record { actor = me s3; there = refl; going = refl; event = insert 1 7 0 fresh_node room e; can = can_insert; is = refl }))
+    (record { actor = me s4; there = refl; going = refl; event = reserve 7 full 2; can = can_again; is = refl }))
+    (record { actor = me s5; there = refl; going = refl; event = delete 2 7 0 (put_entry 0 e fresh_node) (shard_at s5.shards 7).rows e.key; can = can_delete; is = refl })

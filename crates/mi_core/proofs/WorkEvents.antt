@@ -128,6 +128,7 @@ module _ (s : State) (k : Sound s) (a : ℕ) (r : Actor) (there : slice_get s.ac
       entries = entries_work work;
       each = each_set s.actors a r q there (λ b t. Suits s.board s.shards s.pages b t) own (λ b t n e. k.each b t e);
       retired = retired_by s.actors a r q there sweep log s.board.retired k.retired;
+      order = k.order;
       sixteen = k.sixteen;
       holders = λ n b h. holders_by s.actors a r q there shard n b (k.holders n b h);
       claims = claims_by s.actors a r q there claimed k.claims;

@@ -1,5 +1,12 @@
 //! What events keep, and what lasts. The functions do nothing.
-ghost use Rattle.std.specs.Prelude.{◌≡◌, ◌≢◌, ◌≤◌, [], ℕ, List, Some, false, length, slice_get, suc, take};
+ghost use Rattle.std.specs.Prelude.{◌≡◌, ◌≢◌, ◌≤◌, [], ◌∷◌, ℕ, ℤ, pos, List, Some, false, length, slice_get, suc, take};
+ghost use Rattle.mi_base.specs.declared.records.LogEvent.{LogEvent};
+ghost use Rattle.mi_base.specs.declared.records.LogEvent.TheVariants.{Split};
+ghost use Rattle.mi_base.specs.declared.records.Update.TheVariants.{Delete, Insert};
+ghost use Rattle.mi_base.specs.History.{updates_of};
+ghost use Rattle.mi_tree.specs.declared.outcomes.Leaf.{Leaf};
+ghost use Rattle.mi_tree.specs.Legal.{MayFollow};
+ghost use Rattle.mi_core.specs.Boards.{next_split};
 ghost use Rattle.mi_base.specs.Configuration.{Configuration, IsWithinLimits, metric_space};
 ghost use Rattle.mi_base.specs.Space.{IsMetric};
 ghost use Rattle.mi_entries.specs.Actors.{Actor};
@@ -9,14 +16,20 @@ ghost use Rattle.mi_core.specs.Debts.{Debts, KeepsDebts, Linked};
 ghost use Rattle.mi_core.specs.Events.{Can, Event, after, opened};
 ghost use Rattle.mi_core.specs.Kept.{Kept};
 ghost use Rattle.mi_core.specs.Later.{IsLater, LeadsOn, Spares, SparesOthers};
-ghost use Rattle.mi_core.specs.Law.{Keeps};
+ghost use Rattle.mi_core.specs.Law.{Keeps, Reaches, small_settings};
 ghost use Rattle.mi_core.specs.Named.{IsNamed, Named};
 ghost use Rattle.mi_core.specs.State.{State};
-ghost use Rattle.mi_core.specs.Wanted.{StaysWanted};
+ghost use Rattle.mi_core.specs.Wanted.{IsWanted, StaysWanted};
 
 /// Every event leads from a state that is kept to one that is.
 pub fn events_keep()
     ensures { (e : Event) → Keeps e }
+{}
+
+/// Whatever events of whichever actors lead to, from a state that is kept, is kept; and an object can come and go.
+pub fn reached_states_are_kept()
+    ensures kept { (s : State) → Kept s → (t : State) → Reaches s t → Kept t }
+    ensures some { (t : State) × Reaches (opened small_settings 1 3) t × (updates_of t.board.log ≡ Insert 7 (pos 0 ∷ pos 0 ∷ []) ∷ Delete 7 ∷ []) }
 {}
 
 /// What was just opened is kept.
@@ -35,6 +48,13 @@ pub fn states_follow()
     ensures told { (s t : State) → Kept s → Kept t → IsLater s t → s.board.allotted ≡ s.board.settings.pages → t.board.allotted ≡ t.board.settings.pages }
     ensures seen { (s t : State) → Kept s → Kept t → IsLater s t → (n : ℕ) → n ≤ length s.board.log → take n t.board.log ≡ take n s.board.log }
     ensures pages { (s t : State) → Kept s → Kept t → IsLater s t → length t.pages ≡ length s.pages }
+{}
+
+/// A leaf that may be split after a log is one that is to be split; and so is the leaf that a splitter takes next.
+pub fn leaves_are_wanted()
+    ensures found { (c : Configuration) (log : List LogEvent) (leaf : List ℕ) → MayFollow c log (Split leaf) → IsWanted c log leaf }
+    ensures follows { (c : Configuration) (log : List LogEvent) (leaf : List ℕ) → IsWanted c log leaf → MayFollow c log (Split leaf) }
+    ensures next { (s : State) (leaf : Leaf) → next_split s.board ≡ Some leaf → MayFollow s.board.settings s.board.log (Split leaf.prefix) }
 {}
 
 /// No event forgets an owed route; where nobody owes one, all routes are there.
