@@ -28,7 +28,7 @@ use Rattle.mi_entries.specs.Entries.{id_of, grid, HasPlace, Shows, counts}
 use Rattle.mi_core.specs.Events.{CanDelete, after}
 use Rattle.mi_core.specs.Events.Event.{delete}
 use Rattle.mi_forest.specs.Forests.{all_entries, Forest, IsForest}
-use Rattle.mi_world.proofs.RetiredLemmas.{order_grows}
+use Rattle.mi_core.proofs.OrderLemmas.{order_grows}
 use Rattle.mi_core.specs.Sound.{Sound}
 use Rattle.mi_core.specs.Named.{EntryOf}
 use Rattle.mi_core.specs.Pages.{ArePages, forest_of, node_or_fresh, has_page}
@@ -271,7 +271,7 @@ module _ (s : State) (k : Sound s) (a : ℕ) (r : Actor) (there : slice_get s.ac
     entries = entries';
     each = each_set s.actors a r q there (λ b t. Suits b' shards' pages' b t) own' others';
     retired = retired_stay s.actors a r q there same (log ++ x ∷ []) s.board.retired (retired_more log x s.actors s.board.retired k.retired);
-    order = order_grows s.board.retired log (x ∷ []) k.order;
+    order = order_grows s.board.retired log a op (Delete id) k.order;
     sixteen = length-set s.shards (home id) (held_by (Some a) (without_id id kept)) ∙ k.sixteen;
     holders = λ n b h. holders_stay s.actors a r q there same n b (k.holders n b (sym (shard_same n) ∙ h));
     claims = claims_stay s.actors a r q there same k.claims;

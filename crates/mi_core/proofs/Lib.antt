@@ -42,3 +42,4 @@ pub mod FrameEvents
 pub mod RefusalLemmas
 pub mod StraightLemmas
 pub mod ReachLemmas
+pub mod OrderLemmas

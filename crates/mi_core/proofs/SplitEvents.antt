@@ -29,7 +29,7 @@ use Rattle.mi_tree.specs.Legal.{MayFollow}
 use Rattle.mi_core.specs.Events.{IsWhole, after, leaf_or}
 use Rattle.mi_core.specs.Events.Event.{publish}
 use Rattle.mi_forest.specs.Forests.{all_entries}
-use Rattle.mi_world.proofs.RetiredLemmas.{order_published}
+use Rattle.mi_core.proofs.OrderLemmas.{order_published}
 use Rattle.mi_core.specs.Sound.{Sound}
 use Rattle.mi_core.specs.Pages.{ArePages, forest_of, has_page}
 use Rattle.mi_entries.specs.Splits.{AreEntries, IsWork}
@@ -252,7 +252,7 @@ module _ (s : State) (k : Sound s) (a : ℕ) (r : Actor) (there : slice_get s.ac
     entries = entries';
     each = each_set s.actors a r q there (λ b t. Suits b' s.shards s.pages b t) own' others';
     retired = retired_by s.actors a r q there refl (log ++ x ∷ []) (s.board.retired ++ w.leaf ∷ []) (retired_now s.board.retired k.retired);
-    order = order_published s.board.retired w.leaf log (same_self w.leaf) k.order;
+    order = order_published s.board.retired log w.leaf k.order;
     sixteen = k.sixteen;
     holders = λ n b h. holders_by s.actors a r q there refl n b (k.holders n b h);
     claims = claims_end s.actors a r q there refl k.claims;

@@ -9,8 +9,8 @@ use Rattle.mi_base.specs.History.{at_position, entered, events_at}
 use Rattle.mi_key.specs.declared.entries.Entry.{Entry}
 use Rattle.mi_tree.specs.Cells.{Grid, same_cell}
 use Rattle.mi_core.specs.Actors.{Suits}
-use Rattle.mi_tree.specs.Births.{was_split}
-use Rattle.mi_core.specs.Claims.{AreRetired, SweepAlone}
+use Rattle.mi_tree.specs.Births.{was_split, splits_in}
+use Rattle.mi_core.specs.Claims.{AreRetired, SweepAlone, last_of}
 use Rattle.mi_core.specs.Boards.{floor_of, BoardState}
 use Rattle.mi_entries.specs.Marks.{cell_start}
 use Rattle.mi_core.specs.Effects.{looked}
@@ -18,8 +18,7 @@ use Rattle.mi_entries.specs.Entries.{HasPlace, born_in, key_down, key_in, grid, 
 use Rattle.mi_core.specs.Events.{IsFree, after}
 use Rattle.mi_core.specs.Events.Event.{take_sweep}
 use Rattle.mi_forest.specs.Forests.{all_entries}
-use Rattle.mi_world.proofs.RetiredLemmas.{order_taken}
-use Rattle.mi_world.specs.Retired.{were_split_in_order}
+use Rattle.mi_core.proofs.OrderLemmas.{order_taken}
 use Rattle.mi_core.specs.Sound.{Sound}
 use Rattle.mi_core.specs.Pages.{forest_of}
 use Rattle.mi_entries.specs.Splits.{AreEntries}
@@ -162,7 +161,7 @@ module _ (s : State) (k : Sound s) (a : ℕ) (r : Actor) (there : slice_get s.ac
     entries = entries';
     each = each_set s.actors a r q there (λ b t. Suits b' s.shards s.pages b t) own' others';
     retired = retired' ps all_retired.1 all_retired.3;
-    order = order_taken log p ps (subst (λ (ns : List (List ℕ)). were_split_in_order ns log ≡ true) first k.order);
+    order = order_taken p ps log (subst (λ (ns : List (List ℕ)). ns ≡ last_of (length ns) (splits_in log)) first k.order);
     sixteen = k.sixteen;
     holders = λ n b h. holders_by s.actors a r q there refl n b (k.holders n b h);
     claims = claims_by s.actors a r q there refl k.claims;

@@ -1,5 +1,5 @@
 -- Who holds what, and what the shards have.
-use Rattle.std.specs.Prelude.{◌≡◌, ℕ, List, [], ◌∷◌, true, false, Some, slice_get}
+use Rattle.std.specs.Prelude.{◌≡◌, ◌-◌, ℕ, length, drop, List, [], ◌∷◌, true, false, Some, slice_get}
 use Rattle.std.specs.List.{list_any}
 use Rattle.mi_base.specs.declared.records.LogEvent.{LogEvent}
 use Rattle.mi_tree.specs.Cells.{same_cell}
@@ -27,3 +27,7 @@ AreRetired log actors (p ∷ ps) =
     (was_split p log ≡ true) × (list_any (same_cell p) ps ≡ false)
     × ((a : ℕ) (r : Actor) (w : SweepWork) → slice_get actors a ≡ Some r → r.sweep ≡ Some w → same_cell p w.leaf ≡ false)
     × AreRetired log actors ps
+
+-- the last so many elements of a list
+abbrev pub last_of : {X : Type 0} → ℕ → List X → List X
+last_of n xs = drop (length xs - n) xs

@@ -1,13 +1,13 @@
 -- A sound state: its pages, entries, records and log fit together.
-use Rattle.std.specs.Prelude.{true, ◌≡◌, ◌<◌, ℕ, List, length, Some, slice_get}
+use Rattle.std.specs.Prelude.{◌≡◌, ◌<◌, ℕ, List, length, Some, slice_get}
 use Rattle.std.specs.List.{AllByRecursion}
 use Rattle.mi_base.specs.Configuration.{IsWithinLimits, metric_space}
 use Rattle.mi_base.specs.History.{Entered, entered, events_at}
 use Rattle.mi_base.specs.Space.{IsMetric}
+use Rattle.mi_tree.specs.Births.{splits_in}
 use Rattle.mi_tree.specs.Legal.{LegalLog}
-use Rattle.mi_world.specs.Retired.{were_split_in_order}
 use Rattle.mi_core.specs.Actors.{Suits}
-use Rattle.mi_core.specs.Claims.{AreRetired, ClaimAlone, HasHolder, SweepAlone}
+use Rattle.mi_core.specs.Claims.{last_of, AreRetired, ClaimAlone, HasHolder, SweepAlone}
 use Rattle.mi_core.specs.Boards.{floor_of}
 use Rattle.mi_entries.specs.Records.{HasRecords, shard_at}
 use Rattle.mi_forest.specs.Forests.{all_entries}
@@ -27,9 +27,9 @@ pub record Sound (s : State) : Type 0 where
   pub entries : AreEntries s.board.settings s.board.log (events_at (floor_of s.board)) s.actors s.board.retired (all_entries (forest_of s.board s.pages s.actors chain))
   -- each actor has seen a part of the log, has its floor, pin, claims, own updates and fresh page
   pub each : (a : ℕ) (r : Actor) → slice_get s.actors a ≡ Some r → Suits s.board s.shards s.pages a r
-  -- the retired leaves were split in the log, in their order, each once, and nobody sweeps them
+  -- the retired leaves are the last that were split in the log, in their order, each once, and nobody sweeps them
   pub retired : AreRetired s.board.log s.actors s.board.retired
-  pub order : were_split_in_order s.board.retired s.board.log ≡ true
+  pub order : s.board.retired ≡ last_of (length s.board.retired) (splits_in s.board.log)
   -- a shard, a leaf and a sweep have one holder
   pub sixteen : length s.shards ≡ 16
   pub holders : (k a : ℕ) → (shard_at s.shards k).holder ≡ Some a → HasHolder s.actors k a
