@@ -33,7 +33,7 @@ use Rattle.mi_entries.proofs.KeyedLemmas.{is_keyed}
 use Rattle.mi_forest.proofs.MoveLemmas.{level_in}
 use Rattle.mi_forest.proofs.NumberLemmas.{all_from_has}
 use Rattle.mi_core.proofs.PotentialLemmas.{at_one, count_live, depths, ever, ever_few, few_carried, swapped}
-use Rattle.mi_entries.proofs.Tools.{all_both}
+use Rattle.mi_entries.proofs.FilterLemmas.{all_both}
 use Rattle.mi_tree.proofs.ListLemmas.{all_any, all_weaker}
 
 -- the pages in hands

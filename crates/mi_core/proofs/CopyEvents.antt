@@ -29,7 +29,7 @@ use Rattle.mi_core.proofs.KeptLemmas.{floor_position, some_none}
 use Rattle.mi_entries.proofs.KeyedLemmas.{is_keyed}
 use Rattle.mi_core.proofs.PageLemmas.{flat_put, forest_put, linked_set, root_set, there_set}
 use Rattle.mi_entries.proofs.ShowLemmas.{count_between}
-use Rattle.mi_entries.proofs.Tools.{not_true}
+use Rattle.mi_entries.proofs.FilterLemmas.{not_true}
 use Rattle.mi_tree.proofs.ListLemmas.{all_weaker, all_get}
 use Rattle.mi_tree.proofs.LeafLemmas.{same_cell_is}
 use Rattle.mi_entries.proofs.DepthLemmas.{IsKeyed}

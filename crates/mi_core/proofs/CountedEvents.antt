@@ -23,7 +23,7 @@ use Rattle.mi_core.proofs.CountEvents.{event_keeps_counts}
 use Rattle.mi_entries.proofs.EntryLemmas.{get_more}
 use Rattle.mi_core.proofs.LaterEvents.{event_leads_on}
 use Rattle.mi_core.proofs.LawLemmas.{event_keeps}
-use Rattle.mi_entries.proofs.Tools.{not_true}
+use Rattle.mi_entries.proofs.FilterLemmas.{not_true}
 
 -- nobody was early before
 early_was : (actors : List Actor) (a : ℕ) (r q : Actor) → slice_get actors a ≡ Some r → (q.early ≡ false → r.early ≡ false) → NoneEarly (set actors a q) → NoneEarly actors

@@ -42,7 +42,7 @@ use Rattle.mi_core.proofs.KeptLemmas.{all_snoc, pins_stand, retired_more, saw_mo
 use Rattle.mi_entries.proofs.KeyedLemmas.{is_keyed}
 use Rattle.mi_core.proofs.PageLemmas.{in_page, linked_set, page_sets, root_set, there_set, within}
 use Rattle.mi_entries.proofs.RecordLemmas.{born_live, records_delete}
-use Rattle.mi_entries.proofs.Tools.{not_true}
+use Rattle.mi_entries.proofs.FilterLemmas.{not_true}
 use Rattle.mi_tree.proofs.ListLemmas.{all_weaker, all_get}
 use Rattle.mi_page.specs.Entries.{with_death}
 use Rattle.mi_page.specs.Keys.{IsInside}

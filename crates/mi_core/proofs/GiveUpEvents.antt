@@ -28,7 +28,7 @@ use Rattle.mi_entries.proofs.ContentLemmas.{EndsSplit}
 use Rattle.mi_core.proofs.FloorLemmas.{least_same}
 use Rattle.mi_core.proofs.KeptLemmas.{on_board}
 use Rattle.mi_core.proofs.PageLemmas.{forest_held}
-use Rattle.mi_entries.proofs.Tools.{all_both}
+use Rattle.mi_entries.proofs.FilterLemmas.{all_both}
 use Rattle.mi_tree.proofs.ListLemmas.{all_weaker, filter_twice}
 
 none_pass : {X : Type 0} (t : X → Bool) (xs : List X) → length (filter t xs) ≤ 0 → AllByRecursion (λ x. t x ≡ false) xs

@@ -1,5 +1,5 @@
 -- What never changes again, event by event.
-use Rattle.std.proofs.Common.{◌≡◌, ℕ, ◌≤◌, List, [], ◌∷◌, ◌++◌, append-nil, length, length-append, length-set, set, refl, sym, ap, ◌∙◌, subst, arith, inl, inr, Option, Some, None, Bool, true, false, cond, get_or-set_other, get_or-set_same}
+use Rattle.std.proofs.Common.{◌≡◌, ℕ, List, [], ◌∷◌, ◌++◌, append-nil, length-append, length-set, set, refl, sym, ap, ◌∙◌, subst, arith, inl, inr, Option, Some, None, Bool, true, false, cond, get_or-set_other, get_or-set_same}
 use Rattle.std.specs.Prelude.{slice_get}
 use Rattle.mi_base.specs.declared.records.LogEvent.{LogEvent}
 use Rattle.mi_base.specs.declared.records.LogEvent.TheVariants.{Update as Made, Split}
@@ -56,11 +56,8 @@ post_frame key child node =
     let P : Bool → Type 0 = λ b. ((cond b node (record node { routes = put route_cmp (record { key = key; child = child }) node.routes })).level ≡ node.level) × ((cond b node (record node { routes = put route_cmp (record { key = key; child = child }) node.routes })).low ≡ node.low) in
     elim (has_route key node.routes) as P [ true ↦ (refl, refl) | false ↦ (refl, refl) ]
 
--- the same settings, and a log with so much more
+-- the same settings, and the same log or one event more
 module _ (s : State) (a : ℕ) (r : Actor) where
-  still_later : (t : State) → t.board.settings ≡ s.board.settings → (more : List LogEvent) → t.board.log ≡ s.board.log ++ more → s.board.allotted ≤ t.board.allotted → s.board.height ≤ t.board.height → length s.actors ≤ length t.actors → Goes s.pages t.pages → IsLater s t
-  still_later t settings more log allotted height actors pages = record { settings = settings; more = more; log = log; allotted = allotted; height = height; actors = actors; pages = pages }
-
   same_log : (b : BoardState) (pages : List (Option Node)) (q : Actor) → b.settings ≡ s.board.settings → b.log ≡ s.board.log → b.allotted ≡ s.board.allotted → b.height ≡ s.board.height → Goes s.pages pages → (shards : List Shard) → IsLater s (record { board = b; shards = shards; pages = pages; actors = set s.actors a q })
   same_log b pages q settings log allotted height goes shards = record {
     settings = settings;

@@ -10,7 +10,7 @@ use Rattle.mi_core.specs.State.{State}
 use Rattle.mi_core.specs.Events.Event.{see, look, meet, refuse, refuse_at, visit, start, trim, miss_shard, claim_shard, release_shard, reserve, pin, unpin, claim_leaf, release_leaf, insert, delete, allot, lack, grow, split_page, post, gather, copy_in, uncopy, publish, give_up, take_sweep, take_split, no_work, sweep, fork, absorb, depart}
 use Rattle.mi_core.proofs.BoardEvents.{claim_leaf_keeps, depart_keeps, pin_keeps, release_leaf_keeps, take_split_keeps, unpin_keeps}
 use Rattle.mi_core.proofs.AllotEvents.{allot_event}
-use Rattle.mi_core.proofs.InsertLemmas.{insert_keeps}
+use Rattle.mi_core.proofs.InsertEvents.{insert_keeps}
 use Rattle.mi_core.proofs.QuietEvents.{claim_shard_keeps, lack_keeps, look_keeps, meet_keeps, miss_keeps, release_shard_keeps, see_keeps, visit_keeps}
 use Rattle.mi_core.proofs.ReserveEvents.{reserve_keeps}
 use Rattle.mi_core.proofs.SplitEvents.{publish_keeps}

@@ -2,7 +2,7 @@ pub mod ActorLemmas
 pub mod FloorLemmas
 pub mod PageLemmas
 pub mod KeptLemmas
-pub mod InsertLemmas
+pub mod InsertEvents
 pub mod SplitEvents
 pub mod QuietEvents
 pub mod SweepEvents

@@ -2,11 +2,10 @@
 use Rattle.std.proofs.Common.{◌≡◌, ℕ, suc, zero, ◌==◌, [], length, take, get_or, Bool, true, false, cond, nat_eq, refl, sym, ap, ◌∙◌, subst, arith, Option, Some, None}
 use Rattle.std.specs.Prelude.{slice_get, replicate}
 use Rattle.std.specs.List.{find}
-use Rattle.mi_base.specs.declared.records.Position.{Position}
 use Rattle.mi_base.specs.Configuration.{Configuration, IsWithinLimits, metric_space}
 use Rattle.mi_page.specs.Nodes.{Node, fresh_node}
 use Rattle.mi_core.specs.Actors.{Suits}
-use Rattle.mi_core.specs.Boards.{least_pin, ActorState, idle}
+use Rattle.mi_core.specs.Boards.{ActorState, idle}
 use Rattle.mi_core.specs.Events.{opened, first_actor}
 use Rattle.mi_forest.specs.Forests.{IsForest, IsLinked, first_chain, first_forest}
 use Rattle.mi_core.specs.Sound.{Sound}
@@ -37,10 +36,6 @@ or_copy (suc n) (suc i) x = or_copy n i x
 pub count_none : {X : Type 0} (t : X → Bool) (x : X) → t x ≡ false → (n : ℕ) → count_if t (replicate n x) ≡ 0
 count_none t x h zero = refl
 count_none t x h (suc n) = let one : cond {A = ℕ} (t x) 1 0 ≡ 0 = ap (λ b. cond {A = ℕ} b 1 0) h in omega (arith, one, count_none t x h n)
-
-no_pin : (n : ℕ) (end : Position) → least_pin end (replicate n idle) ≡ end
-no_pin zero end = refl
-no_pin (suc n) end = no_pin n end
 
 both_none : {X : Type 0} (b : Bool) → cond {A = Option X} b None None ≡ None
 both_none true = refl

@@ -41,7 +41,7 @@ use Rattle.mi_core.proofs.FloorLemmas.{at_more, end_events, least_rises, least_s
 use Rattle.mi_core.proofs.KeptLemmas.{floor_position, on_board, saw_more}
 use Rattle.mi_entries.proofs.KeyedLemmas.{is_keyed}
 use Rattle.mi_core.proofs.PageLemmas.{forest_held}
-use Rattle.mi_entries.proofs.Tools.{all_where, not_true}
+use Rattle.mi_entries.proofs.FilterLemmas.{all_where, not_true}
 use Rattle.mi_base.proofs.SortingLemmas.{filter_keeps}
 use Rattle.mi_tree.proofs.ListLemmas.{all_weaker}
 use Rattle.mi_tree.specs.Counting.{belongs, placed_object}

@@ -34,7 +34,7 @@ use Rattle.mi_core.proofs.KeptLemmas.{floor_position, some_none}
 use Rattle.mi_entries.proofs.KeyedLemmas.{is_keyed}
 use Rattle.mi_core.proofs.PageLemmas.{flat_fewer, forest_fewer, linked_set, root_set, there_set}
 use Rattle.mi_entries.proofs.DepthLemmas.{depth_deep, IsKeyed, not_down}
-use Rattle.mi_entries.proofs.Tools.{all_where, not_true, and_no}
+use Rattle.mi_entries.proofs.FilterLemmas.{all_where, not_true, and_no}
 use Rattle.mi_tree.proofs.ListLemmas.{all_weaker, all_take}
 use Rattle.mi_tree.proofs.LeafLemmas.{begins_is}
 use Rattle.mi_key.specs.Ranges.{is_within}

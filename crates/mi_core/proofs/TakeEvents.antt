@@ -27,7 +27,7 @@ use Rattle.mi_core.specs.State.{State, put_actor, put_board}
 use Rattle.mi_core.proofs.ActorLemmas.{«is», at_set, was, claims_by, each_set, holders_by, set_else, set_there}
 use Rattle.std.proofs.lemmas.Option.{none-some, same_Some}
 use Rattle.mi_core.proofs.KeptLemmas.{floor_position}
-use Rattle.mi_entries.proofs.Tools.{not_true}
+use Rattle.mi_entries.proofs.FilterLemmas.{not_true}
 use Rattle.mi_tree.proofs.ListLemmas.{all_weaker}
 use Rattle.mi_tree.proofs.LeafLemmas.{same_cell_is, same_self, begins_is}
 use Rattle.mi_entries.proofs.RetiredLemmas.{from_start}

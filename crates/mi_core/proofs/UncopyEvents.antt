@@ -38,7 +38,7 @@ use Rattle.mi_forest.proofs.EventLemmas.{remove_event}
 use Rattle.mi_entries.proofs.KeyedLemmas.{is_keyed}
 use Rattle.mi_core.proofs.PageLemmas.{linked_set, page_sets, root_set, there_set, within}
 use Rattle.mi_entries.proofs.ShowLemmas.{drop_shows}
-use Rattle.mi_entries.proofs.Tools.{and_no, filter_dropped, no_and, not_true, same_is}
+use Rattle.mi_entries.proofs.FilterLemmas.{and_no, filter_dropped, no_and, not_true, same_is}
 use Rattle.std.proofs.lemmas.List.{map-append}
 use Rattle.mi_tree.proofs.ListLemmas.{all_any, all_take, all_weaker, filter_all, filter_same, filter_twice}
 use Rattle.mi_core.proofs.WorkEvents.{copies, unswept, worked}

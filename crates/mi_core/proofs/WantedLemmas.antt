@@ -24,7 +24,7 @@ use Rattle.mi_entries.specs.Entries.{grid}
 use Rattle.mi_entries.specs.Actors.{Actor}
 use Rattle.mi_core.specs.State.{State}
 use Rattle.mi_entries.proofs.ContentLemmas.{leaf_more, leaf_split}
-use Rattle.mi_entries.proofs.Tools.{not_true}
+use Rattle.mi_entries.proofs.FilterLemmas.{not_true}
 use Rattle.mi_core.specs.Wanted.{IsWanted}
 use Rattle.mi_base.specs.Permutations.{begins}
 use Rattle.mi_tree.specs.Births.{Born, born, living}

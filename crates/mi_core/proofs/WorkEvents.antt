@@ -32,7 +32,7 @@ use Rattle.mi_entries.proofs.ContentLemmas.{Copies, ahead_down, place_stays}
 use Rattle.mi_entries.proofs.DepthLemmas.{IsKeyed}
 use Rattle.mi_entries.proofs.KeyedLemmas.{is_keyed}
 use Rattle.mi_core.proofs.PageLemmas.{forest_held}
-use Rattle.mi_entries.proofs.Tools.{not_true, same_is}
+use Rattle.mi_entries.proofs.FilterLemmas.{not_true, same_is}
 use Rattle.mi_tree.proofs.ListLemmas.{all_weaker, filter_none, filter_twice}
 use Rattle.mi_page.specs.Keys.{IsInside}
 use Rattle.mi_forest.proofs.FlatLemmas.{leaf_entries}

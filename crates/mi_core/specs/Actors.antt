@@ -18,6 +18,7 @@ use Rattle.mi_entries.specs.Entries.{grid}
 abbrev pub made_by : ℕ → List LogEvent → List Entered
 made_by a log = filter (λ e. e.session == a) (entered log)
 
+-- the position of a pin
 abbrev pub pinned_at : Option Pin → Option Position
 pinned_at None = None
 pinned_at (Some p) = Some p.at
@@ -37,9 +38,10 @@ pub record Holds (b : BoardState) (shards : List Shard) (a : ℕ) (r : Actor) : 
   pub shard : (k : ℕ) → r.shard ≡ Some k → (k < 16) × ((shard_at shards k).holder ≡ Some a)
   pub leaf : (p : List ℕ) → r.claim ≡ Some p → is_leaf (grid b.settings) b.log p ≡ true
   pub split : (w : SplitWork) → r.split ≡ Some w → r.claim ≡ Some w.leaf
-  -- room for a record
+  -- who has reserved with this shard in hand has room for a record in it
   pub room : (k : ℕ) → r.shard ≡ Some k → r.reserved_here ≡ true → (r.reserved ≡ true) × (length (shard_at shards k).rows.records < (shard_at shards k).rows.room)
 
+-- an actor's record fits what all share: what it saw, its own updates, what it holds, what it sweeps, and its fresh page
 pub record Suits (b : BoardState) (shards : List Shard) (pages : List (Option Node)) (a : ℕ) (r : Actor) : Type 0 where
   pub saw : Saw b r
   pub own : made_by a b.log ≡ r.own

@@ -1,4 +1,4 @@
--- Who holds what, and what the shards have.
+-- Who holds what.
 use Rattle.std.specs.Prelude.{◌≡◌, ◌-◌, ℕ, length, drop, List, [], ◌∷◌, true, false, Some, slice_get}
 use Rattle.std.specs.List.{list_any}
 use Rattle.mi_base.specs.declared.records.LogEvent.{LogEvent}
@@ -20,7 +20,7 @@ ClaimAlone actors = (a b : ℕ) (r t : Actor) (p : List ℕ) → slice_get actor
 abbrev pub SweepAlone : List Actor → Type 0
 SweepAlone actors = (a b : ℕ) (r t : Actor) (x y : SweepWork) → slice_get actors a ≡ Some r → slice_get actors b ≡ Some t → r.sweep ≡ Some x → t.sweep ≡ Some y → x.leaf ≡ y.leaf → a ≡ b
 
--- a leaf on the list was split in the log, stands there once, and nobody sweeps it
+-- each leaf on the list was split in the log, stands there once, and nobody sweeps it
 abbrev pub AreRetired : List LogEvent → List Actor → List (List ℕ) → Type 0
 AreRetired log actors [] = Unit {0}
 AreRetired log actors (p ∷ ps) =

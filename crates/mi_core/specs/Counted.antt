@@ -43,9 +43,11 @@ carried g earlier (Split p ∷ log) = length (filter (belongs g p) (live (update
 abbrev pub copies_of : Actor → ℕ
 copies_of r = copied_of r.split
 
+-- no actor ever took a copy back
 abbrev pub NoneUndone : List Actor → Type 0
 NoneUndone actors = (a : ℕ) (r : Actor) → slice_get actors a ≡ Some r → r.undone ≡ false
 
+-- no actor took a copy back before it was told that all pages are allotted
 abbrev pub NoneEarly : List Actor → Type 0
 NoneEarly actors = (a : ℕ) (r : Actor) → slice_get actors a ≡ Some r → r.early ≡ false
 
@@ -57,10 +59,12 @@ Lifted c log pages actors = NoneUndone actors → total page_lift pages ≤ 16 +
 abbrev pub Told : BoardState → List Actor → Type 0
 Told b actors = (a : ℕ) (r : Actor) → slice_get actors a ≡ Some r → r.undone ≡ true → r.early ≡ false → b.allotted ≡ b.settings.pages
 
+-- few entries for what was put in; all pages are allotted where a copy was taken back in time; and few pages, unless one was taken back early
 pub record Counted (s : State) : Type 0 where
   pub lifted : Lifted s.board.settings s.board.log s.pages s.actors
   pub told : Told s.board s.actors
   pub bound : NoneEarly s.actors → 8 * s.board.allotted ≤ length (updates_of s.board.log) * (s.board.settings.levels + 1) + 8 * (7 + length s.actors)
 
+-- the event keeps these counts
 abbrev pub KeepsCounted : Event → Type 0
 KeepsCounted e = (s : State) → Kept s → Counted s → (a : ℕ) (r : Actor) → slice_get s.actors a ≡ Some r → Can s a r e → Counted (after s a r e)

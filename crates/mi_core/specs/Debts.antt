@@ -43,6 +43,7 @@ abbrev pub Remembers : Event → Type 0
 Remembers (absorb b t) = t.owed ≡ []
 Remembers _ = Unit {0}
 
+-- the event keeps the debts, unless it ends an actor that has some
 abbrev pub KeepsDebts : Event → Type 0
 KeepsDebts e = (s : State) → Kept s → Debts s.pages s.actors → (a : ℕ) (r : Actor) → slice_get s.actors a ≡ Some r → Can s a r e → Remembers e → Debts (after s a r e).pages (after s a r e).actors
 

@@ -9,6 +9,7 @@ use Rattle.mi_key.specs.declared.ranges.Interval.{Interval}
 use Rattle.mi_page.specs.Entries.{entry_cmp, without_interval, without_dead, with_death, without_key}
 use Rattle.mi_page.specs.Nodes.{Node}
 use Rattle.mi_page.specs.Routes.{has_route, route_cmp}
+use Rattle.mi_forest.specs.Changes.{with_entries}
 use Rattle.mi_core.specs.Boards.{BoardState, floor_of, with_event, with_reserved}
 use Rattle.mi_entries.specs.Actors.{Actor, Owed}
 
@@ -20,34 +21,33 @@ with_update a op u b = with_event (Made a op u) (with_reserved false) a b
 
 -- pages
 
-abbrev pub with_entries : List Entry → Node → Node
-with_entries entries n = record n { entries = entries }
-
+-- the entries that are dead at the floor are dropped
 abbrev pub trim_node : ℕ → Node → Node
-trim_node floor n = with_entries (without_dead floor n.entries) n
+trim_node floor n = with_entries n (without_dead floor n.entries)
 
 -- a leaf page is trimmed, and a route page stays as it is
 abbrev pub trim_leaf : ℕ → Node → Node
 trim_leaf floor n = cond (n.level == 0) (trim_node floor n) n
 
--- after a trim, since it may need the room
+-- an entry is put in after a trim, since it may need the room
 abbrev pub put_entry : ℕ → Entry → Node → Node
-put_entry floor e n = with_entries (put entry_cmp e (without_dead floor n.entries)) n
+put_entry floor e n = with_entries n (put entry_cmp e (without_dead floor n.entries))
 
+-- the entry of a key gets a death
 abbrev pub mark_entry : ℕ → ℕ → Node → Node
-mark_entry key number n = with_entries (map (with_death key number) n.entries) n
+mark_entry key number n = with_entries n (map (with_death key number) n.entries)
 
+-- the entry of a key is dropped
 abbrev pub drop_entry : ℕ → Node → Node
-drop_entry key n = with_entries (without_key key n.entries) n
+drop_entry key n = with_entries n (without_key key n.entries)
 
+-- the entries of an interval are dropped
 abbrev pub sweep_node : Interval → Node → Node
-sweep_node range n = with_entries (without_interval range n.entries) n
+sweep_node range n = with_entries n (without_interval range n.entries)
 
--- where the route stands already, nothing changes
+-- a route is put in; where it stands already, nothing changes
 abbrev pub post_route : ℕ → ℕ → Node → Node
 post_route key child n = cond (has_route key n.routes) n (record n { routes = put route_cmp (record { key = key; child = child }) n.routes })
-
--- shards
 
 -- records
 
@@ -55,13 +55,15 @@ post_route key child n = cond (has_route key n.routes) n (record n { routes = pu
 abbrev pub saw : BoardState → Actor → Actor
 saw b r = record r { seen = length b.log }
 
+-- who has looked has the floor of that moment too
 abbrev pub looked : BoardState → Actor → Actor
 looked b r = record r { seen = length b.log; floor = floor_of b }
 
+-- the page of the actor's latest page section
 abbrev pub noted : ℕ → Actor → Actor
 noted page r = record r { page = page }
 
--- an update more; the board is the one after it
+-- an update more of the actor's own, which uses what it had reserved; the board is the one after it
 abbrev pub committed : BoardState → ℕ → ℕ → Update → ℕ → Actor → Actor
 committed b a op u page r = record r {
   seen = length b.log;
@@ -75,5 +77,6 @@ committed b a op u page r = record r {
 abbrev pub route_owed : ℕ → Owed → Bool
 route_owed child o = o.child == child
 
+-- all debts but that for one page
 abbrev pub paid : ℕ → List Owed → List Owed
 paid child owed = filter (λ o. not (route_owed child o)) owed

@@ -25,6 +25,7 @@ use Rattle.mi_entries.specs.Splits.{copy_in_child}
 use Rattle.mi_core.specs.State.{State, node_at, put_actor, put_board, put_page, put_shard}
 use Rattle.mi_entries.specs.Actors.{Actor, Pin, SplitWork, SweepWork}
 
+-- one section of one actor, with what it has in hand
 pub data Event : Type 0 where
   -- a section of the board that leaves it as it was: without a floor, with one, and beside a page
   see : Event
@@ -103,6 +104,7 @@ pub record MayUpdate (s : State) (r : Actor) (leaf : List ℕ) (id page : ℕ) (
   pub page_is : IsLeafPage s page node
   pub inside : IsInside node.low node.high key
 
+-- the object's leaf is claimed and takes inserts, its identifier has no record, and the page has room for its entry after a trim
 pub record CanInsert (s : State) (r : Actor) (id page : ℕ) (node : Node) (kept : Rows) (e : Entry) : Type 0 where
   pub leaf : List ℕ
   pub may : MayUpdate s r leaf id page node kept ((grid s.board.settings).perm e.vector) e.key
@@ -210,6 +212,7 @@ abbrev pub hand : Option ℕ → ℕ
 hand None = 0
 hand (Some p) = p
 
+-- the leaf of a claim
 abbrev pub leaf_or : Option (List ℕ) → List ℕ
 leaf_or None = []
 leaf_or (Some p) = p
@@ -218,25 +221,31 @@ leaf_or (Some p) = p
 abbrev pub split_at : ℕ → Node → ℕ → State → State
 split_at page n fresh s = put_page fresh (upper_half n) (put_page page (lower_half fresh n) s)
 
+-- another split, noted at a page
 abbrev pub with_split_at : Option SplitWork → ℕ → Actor → Actor
 with_split_at w page r = record r { split = w; page = page }
 
+-- so much of what was gathered is copied
 abbrev pub copied_to : ℕ → Option SplitWork → Option SplitWork
 copied_to n None = None
 copied_to n (Some w) = Some (record w { copied = n })
 
+-- how much of what was gathered is copied
 abbrev pub copied_of : Option SplitWork → ℕ
 copied_of None = 0
 copied_of (Some w) = w.copied
 
+-- the leaf of a sweep
 abbrev pub sweep_leaf : Option SweepWork → List ℕ
 sweep_leaf None = []
 sweep_leaf (Some w) = w.leaf
 
+-- a sweep that has swept a page more
 abbrev pub sweep_next : Configuration → Node → Option SweepWork → Option SweepWork
 sweep_next c n None = None
 sweep_next c n (Some w) = swept_on (grid c) w n
 
+-- an actor that has seen what another saw, whose flags are its own now
 abbrev pub more_seen : Actor → Actor → Actor
 more_seen t r = record r { seen = max r.seen t.seen; lacked = cond r.lacked true t.lacked; undone = cond r.undone true t.undone; early = cond r.early true t.early }
 
@@ -244,6 +253,7 @@ more_seen t r = record r { seen = max r.seen t.seen; lacked = cond r.lacked true
 abbrev pub ended : Actor → Actor
 ended t = record t { ended = true; owed = []; reserved_here = false; undone = false; early = false }
 
+-- the state after an event
 abbrev pub after : State → ℕ → Actor → Event → State
 after s a r see = put_actor a (saw s.board r) s
 after s a r look = put_actor a (looked s.board r) s

@@ -25,6 +25,7 @@ pub record IsLater (s t : State) : Type 0 where
   pub actors : length s.actors ≤ length t.actors
   pub pages : (n : ℕ) (p : Node) → node_at s.pages n ≡ Some p → IsStill t.pages n p
 
+-- the event leads to such a later state
 abbrev pub LeadsOn : Event → Type 0
 LeadsOn e = (s : State) → Kept s → (a : ℕ) (r : Actor) → slice_get s.actors a ≡ Some r → Can s a r e → IsLater s (after s a r e)
 

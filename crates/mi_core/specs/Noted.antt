@@ -21,6 +21,7 @@ pub record HoldsNothing (r : Actor) : Type 0 where
   pub undone : r.undone ≡ false
   pub early : r.early ≡ false
 
+-- each actor that has ended holds nothing
 abbrev pub EndedHoldNothing : List Actor → Type 0
 EndedHoldNothing actors = (a : ℕ) (r : Actor) → slice_get actors a ≡ Some r → r.ended ≡ true → HoldsNothing r
 
@@ -29,5 +30,6 @@ abbrev pub Single : List ShardRecord → Type 0
 Single [] = Unit {0}
 Single (x ∷ xs) = AllByRecursion (λ y. y.id ≢ x.id) xs × Single xs
 
+-- in each shard
 abbrev pub AreSingle : List Shard → Type 0
 AreSingle shards = (k : ℕ) → Single (shard_at shards k).rows.records

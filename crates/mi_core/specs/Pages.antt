@@ -11,13 +11,16 @@ abbrev pub node_or_fresh : Option Node → Node
 node_or_fresh None = fresh_node
 node_or_fresh (Some n) = n
 
+-- a hand has this page
 abbrev pub is_page : ℕ → Option ℕ → Bool
 is_page p None = false
 is_page p (Some q) = q == p
 
+-- an actor has this page in its hand
 abbrev pub has_page : ℕ → Actor → Bool
 has_page p r = is_page p r.fresh
 
+-- the pages by number with the chain of each level; a page is held as often as actors have it in hand
 abbrev pub forest_of : BoardState → List (Option Node) → List Actor → (ℕ → List ℕ) → Forest
 forest_of b pages actors chain = record {
   node = λ p. node_or_fresh (node_at pages p);

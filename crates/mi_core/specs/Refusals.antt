@@ -12,6 +12,7 @@ use Rattle.mi_core.specs.Boards.{BoardState}
 use Rattle.mi_core.specs.State.{State, board_actor, node_at}
 use Rattle.mi_entries.specs.Entries.{grid}
 
+-- the log is full, the leaf of a vector is too full, all pages are allotted, another actor holds a leaf, a page is full, or the root is at a level already
 pub data Refusal : Type 0 where
   full : Refusal
   crowded : (vector : List ℤ) → Refusal

@@ -16,6 +16,7 @@ use Rattle.mi_entries.specs.Splits.{AreEntries}
 use Rattle.mi_core.specs.State.{State}
 use Rattle.mi_entries.specs.Actors.{Actor}
 
+-- what holds of the parts of a state together
 pub record Sound (s : State) : Type 0 where
   -- the settings are within their limits, and their space is a metric one
   pub limits : IsWithinLimits s.board.settings

@@ -5,7 +5,7 @@ use Rattle.std.specs.Prelude.{ℕ, ◌+◌, List, [], ◌∷◌, Bool, cond, Opt
 use Rattle.mi_page.specs.Nodes.{Node}
 use Rattle.mi_core.specs.Boards.{ActorState, BoardState, actor_at}
 
--- a page that isn't linked is None: it is fresh, wherever it is
+-- what all actors share, and what is known of each; a page that isn't linked is None: it is fresh, wherever it is
 pub record State : Type 0 where
   pub board : BoardState
   pub shards : List Shard
@@ -16,6 +16,7 @@ pub record State : Type 0 where
 abbrev pub board_actor : BoardState → ℕ → ActorState
 board_actor b a = actor_at b.actors a
 
+-- the page of a number, where it is linked
 abbrev pub node_at : List (Option Node) → ℕ → Option Node
 node_at pages p = slice_index_or pages p None
 

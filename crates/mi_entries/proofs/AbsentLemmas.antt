@@ -20,7 +20,7 @@ use Rattle.mi_entries.specs.Entries.{HasPlace, born_in, depth_of, id_of, key_dow
 use Rattle.mi_entries.specs.Actors.{Actor, SplitWork}
 use Rattle.std.proofs.lemmas.Option.{same_Some}
 use Rattle.mi_entries.proofs.KeyedLemmas.{is_keyed}
-use Rattle.mi_entries.proofs.Tools.{all_both, not_true, all_passes}
+use Rattle.mi_entries.proofs.FilterLemmas.{all_both, not_true, all_passes}
 use Rattle.mi_base.proofs.SortingLemmas.{filter_keeps}
 use Rattle.mi_tree.proofs.ListLemmas.{all_weaker, all_take, all_map, filter_twice, all_from_map}
 use Rattle.mi_entries.specs.Splits.{AreEntries, IsWork}

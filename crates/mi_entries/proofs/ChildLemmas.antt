@@ -8,7 +8,7 @@ use Rattle.mi_entries.specs.Entries.{born_in, counts, depth_of, is_under, key_do
 use Rattle.mi_entries.specs.Splits.{IsWork, copy_in_child}
 use Rattle.mi_entries.specs.Actors.{SplitWork}
 use Rattle.mi_entries.proofs.DepthLemmas.{IsKeyed, leaf_deep}
-use Rattle.mi_entries.proofs.Tools.{all_passes}
+use Rattle.mi_entries.proofs.FilterLemmas.{all_passes}
 use Rattle.mi_base.proofs.SortingLemmas.{filter_keeps}
 use Rattle.mi_tree.proofs.ListLemmas.{all_take, all_weaker, map_same}
 

@@ -24,7 +24,7 @@ use Rattle.mi_entries.specs.Deaths.{IsFirstDelete, updates_by}
 use Rattle.mi_entries.specs.Entries.{FitsKey, HasPlace, IsEntry, IsUnswept, IsWorked, Shows, born_in, counts, depth_of, id_of, is_ahead, is_down, is_in, is_placed, is_under, key_down, under, grid}
 use Rattle.mi_entries.specs.Splits.{AreEntries, IsWork, copy_in_child}
 use Rattle.mi_entries.specs.Actors.{Actor, SplitWork, SweepWork}
-use Rattle.mi_entries.proofs.Tools.{same_is, filter_dropped, filter_put_out, all_where, all_last, all_both, same_last, all_passes, put_in, not_true, and_no, no_and}
+use Rattle.mi_entries.proofs.FilterLemmas.{same_is, filter_dropped, filter_put_out, all_where, all_last, all_both, same_last, all_passes, put_in, not_true, and_no, no_and}
 use Rattle.mi_tree.proofs.ListLemmas.{filter_same, filter_twice, all_put, all_take, all_weaker, all_any}
 use Rattle.mi_entries.proofs.DepthLemmas.{IsKeyed, depth_take, depth_deep, leaf_deep, not_down, depth_not_under, depth_under}
 use Rattle.mi_entries.proofs.PublishLemmas.{copy_shows, publish_shows, shown}

@@ -31,7 +31,7 @@ use Rattle.mi_entries.proofs.DepthLemmas.{IsKeyed, depth_take}
 use Rattle.mi_entries.proofs.EntryLemmas.{count_at, delete_more, get_before, get_last, get_more, timely}
 use Rattle.mi_entries.proofs.LivingLemmas.{born_at, lives_on, not_deleted, same_birth}
 use Rattle.mi_entries.proofs.ShowLemmas.{born_more, count_take, counts_more, depth_more, extend}
-use Rattle.mi_entries.proofs.Tools.{all_both, and_no, no_and, not_true, same_is}
+use Rattle.mi_entries.proofs.FilterLemmas.{all_both, and_no, no_and, not_true, same_is}
 use Rattle.mi_tree.proofs.ListLemmas.{all_map, all_weaker}
 
 -- what passes is among the others

@@ -13,7 +13,7 @@ use Rattle.mi_tree.proofs.LeafLemmas.{leaf_is, step_deep}
 use Rattle.mi_key.specs.Keys.{parts_of}
 use Rattle.mi_tree.specs.Births.{Born}
 use Rattle.mi_entries.specs.Entries.{FitsKey, born_in, is_down, key_down}
-use Rattle.mi_entries.proofs.Tools.{not_true}
+use Rattle.mi_entries.proofs.FilterLemmas.{not_true}
 
 -- vectors have permutations, and keys tell depths apart and have their identifiers
 pub record IsKeyed (g : Grid) : Type 0 where

@@ -26,7 +26,7 @@ use Rattle.mi_entries.proofs.DepthLemmas.{IsKeyed, leaf_deep}
 use Rattle.mi_entries.proofs.EntryLemmas.{timely}
 use Rattle.mi_entries.proofs.KeyedLemmas.{is_keyed}
 use Rattle.mi_entries.proofs.RetiredLemmas.{in_cell, leaf_fits, below_end, from_start}
-use Rattle.mi_entries.proofs.Tools.{and_no, not_true}
+use Rattle.mi_entries.proofs.FilterLemmas.{and_no, not_true}
 use Rattle.mi_tree.proofs.ListLemmas.{all_any, all_weaker, filter_none, filter_same, filter_twice}
 
 -- an entry that counts in a leaf has its key there

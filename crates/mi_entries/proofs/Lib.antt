@@ -1,4 +1,4 @@
-pub mod Tools
+pub mod FilterLemmas
 pub mod DepthLemmas
 pub mod KeyedLemmas
 pub mod ShowLemmas

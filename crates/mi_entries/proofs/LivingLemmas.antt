@@ -15,7 +15,7 @@ use Rattle.mi_tree.specs.Births.{Born, born, born_after, born_from}
 use Rattle.mi_entries.specs.Deaths.{deletes}
 use Rattle.std.proofs.lemmas.Option.{none-some, same_Some}
 use Rattle.mi_entries.proofs.RecordLemmas.{born_live, object}
-use Rattle.mi_entries.proofs.Tools.{and_no, no_and, not_true}
+use Rattle.mi_entries.proofs.FilterLemmas.{and_no, no_and, not_true}
 use Rattle.mi_tree.proofs.ListLemmas.{all_any, filter_map, filter_none, filter_twice}
 
 -- an object of this identifier and birth

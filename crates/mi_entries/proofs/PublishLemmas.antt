@@ -14,7 +14,7 @@ use Rattle.mi_tree.specs.Cells.{Grid, AllMaySplit, depth}
 use Rattle.mi_tree.proofs.LegalLemmas.{updates_of_split}
 use Rattle.mi_tree.specs.Births.{Born, born}
 use Rattle.mi_entries.specs.Entries.{Shows, born_in, counts, is_ahead, is_down, is_placed, is_under, key_down}
-use Rattle.mi_entries.proofs.Tools.{same_is, same_append, same_parts, all_passes, put_out, and_no}
+use Rattle.mi_entries.proofs.FilterLemmas.{same_is, same_append, same_parts, all_passes, put_out, and_no}
 use Rattle.std.proofs.lemmas.List.{map-append}
 use Rattle.mi_tree.proofs.ListLemmas.{filter_same, filter_twice, filter_all, all_weaker, all_any, all_map, filter_map, map_same, map_twice}
 use Rattle.mi_entries.proofs.DepthLemmas.{IsKeyed, depth_take, not_down, depth_not_under, depth_under}

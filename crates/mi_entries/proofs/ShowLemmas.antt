@@ -16,7 +16,7 @@ use Rattle.mi_page.specs.Entries.{entry_cmp, outlives}
 use Rattle.mi_tree.specs.Cells.{Grid, depth}
 use Rattle.mi_tree.specs.Births.{Born, born, born_after, born_from}
 use Rattle.mi_entries.specs.Entries.{Shows, born_in, counts, is_placed}
-use Rattle.mi_entries.proofs.Tools.{same_is, filter_dropped, put_out, put_in, no_and}
+use Rattle.mi_entries.proofs.FilterLemmas.{same_is, filter_dropped, put_out, put_in, no_and}
 use Rattle.mi_tree.proofs.ListLemmas.{filter_same, all_weaker}
 use Rattle.mi_entries.proofs.DepthLemmas.{depth-append}
 

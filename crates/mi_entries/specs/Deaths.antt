@@ -11,6 +11,7 @@ use Rattle.mi_base.specs.History.{updates_of}
 abbrev pub updates_by : List LogEvent → ℕ → ℕ
 updates_by log k = length (updates_of (take k log))
 
+-- the update deletes the identifier
 abbrev pub deletes : ℕ → Update → Bool
 deletes id (Insert i vector) = false
 deletes id (Delete i) = i == id

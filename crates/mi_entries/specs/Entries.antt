@@ -33,9 +33,11 @@ record_key g q x = key_of (record { cluster = cluster_of g.pivots g.levels q; di
 abbrev pub key_down : Grid → ℕ → Born → ℕ
 key_down g d o = key_in g (take d (g.perm o.vector)) o
 
+-- an entry's identifier, which stands in its key
 abbrev pub id_of : Entry → ℕ
 id_of e = (parts_of e.key).id
 
+-- an entry's object with its birth
 abbrev pub born_in : Entry → Born
 born_in e = record { id = id_of e; vector = e.vector; birth = e.birth }
 
@@ -59,6 +61,7 @@ is_ahead g log e = nat_lt (depth_of g log e) g.levels && is_down g (depth_of g l
 abbrev pub is_under : Grid → List ℕ → Entry → Bool
 is_under g p e = begins p (g.perm e.vector)
 
+-- the entries of objects whose permutation begins so
 abbrev pub under : Grid → List ℕ → List Entry → List Entry
 under g p entries = filter (is_under g p) entries
 

@@ -29,6 +29,7 @@ mark_past (Some high) last = cond (nat_lt high last) high last
 abbrev pub gathered_in : Grid → SplitWork → Node → List Entry
 gathered_in g w n = filter (λ e. is_none e.death && (is_within (cell_range g w.leaf) e.key && nat_le w.mark e.key)) n.entries
 
+-- a split that has gathered a page more
 abbrev pub gather_more : Grid → SplitWork → Node → SplitWork
 gather_more g w n = record w { gathered = w.gathered ++ gathered_in g w n; mark = mark_past n.high (cell_end g w.leaf) }
 
@@ -36,6 +37,7 @@ gather_more g w n = record w { gathered = w.gathered ++ gathered_in g w n; mark 
 abbrev pub begun : Grid → List ℕ → SplitWork
 begun g p = record { leaf = p; mark = cell_start g p; gathered = []; copied = 0 }
 
+-- the split under way, or one that has gathered nothing yet
 abbrev pub split_or : Grid → List ℕ → Option SplitWork → SplitWork
 split_or g p None = begun g p
 split_or g p (Some w) = w

@@ -17,13 +17,16 @@ pub record Rows : Type 0 where
   pub records : List ShardRecord
   pub room : ℕ
 
+-- a shard: who holds it, and its records
 pub record Shard : Type 0 where
   pub holder : Option ℕ
   pub rows : Rows
 
+-- a shard that nobody holds, without records
 abbrev pub no_shard : Shard
 no_shard = record { holder = None; rows = record { records = []; room = 0 } }
 
+-- the shard of a number
 abbrev pub shard_at : List Shard → ℕ → Shard
 shard_at shards k = slice_index_or shards k no_shard
 
@@ -44,8 +47,10 @@ HasRecords c log shards k id = find (λ x. x.id == id) (shard_at shards k).rows.
 abbrev pub held_by : Option ℕ → Rows → Shard
 held_by holder x = record { holder = holder; rows = x }
 
+-- one record more
 abbrev pub with_record : ShardRecord → Rows → Rows
 with_record y x = record x { records = x.records ++ y ∷ [] }
 
+-- all records but that of an identifier
 abbrev pub without_id : ℕ → Rows → Rows
 without_id id x = record x { records = filter (λ y. not (y.id == id)) x.records }

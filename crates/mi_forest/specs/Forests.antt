@@ -1,5 +1,5 @@
 -- Linked pages (after Lehman and Yao, 1981): on each level a chain from the lowest key on, and routes from each level to the one below.
-use Rattle.std.specs.Prelude.{◌≡◌, ◌<◌, ◌≤◌, ◌+◌, ◌==◌, ◌&&◌, ℕ, zero, suc, List, [], ◌∷◌, length, Bool, true, cond, nat_lt, nat_le, Option, Some, None, IsTrue}
+use Rattle.std.specs.Prelude.{◌≡◌, ◌<◌, ◌≤◌, ◌+◌, ◌==◌, ℕ, zero, suc, List, [], ◌∷◌, length, true, cond, nat_lt, Option, Some, None, IsTrue}
 use Rattle.std.specs.List.{AllByRecursion, flat_map}
 use Rattle.mi_base.specs.Prefixes.{has}
 use Rattle.mi_key.specs.declared.entries.Entry.{Entry}
@@ -33,6 +33,7 @@ pub record Stands (node : ℕ → Node) (level n : ℕ) (rest : List ℕ) : Type
   pub high : (node n).high ≡ head_low node rest
   pub wide : IsTrue (is_below (node n).high (node n).low)
 
+-- each page of a level stands before the next
 abbrev pub IsChain : (ℕ → Node) → ℕ → List ℕ → Type 0
 IsChain node level [] = Unit {0}
 IsChain node level (n ∷ rest) = Stands node level n rest × IsChain node level rest
@@ -73,6 +74,7 @@ abbrev pub first_chain : ℕ → List ℕ
 first_chain zero = 0 ∷ []
 first_chain (suc level) = []
 
+-- page 0 alone, which is the root
 abbrev pub first_forest : Forest
 first_forest = record { node = λ n. fresh_node; chain = first_chain; root = 0; allotted = 1; held = λ n. 0 }
 

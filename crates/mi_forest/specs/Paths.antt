@@ -6,6 +6,7 @@ use Rattle.mi_page.specs.Routes.{IsChild}
 use Rattle.mi_page.specs.Keys.{IsInside}
 use Rattle.mi_forest.specs.Forests.{Forest, IsLinked}
 
+-- the pages that routes lead to
 abbrev pub children_of : List Route → List ℕ
 children_of routes = map (λ r. r.child) routes
 

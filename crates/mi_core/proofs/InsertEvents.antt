@@ -47,7 +47,7 @@ use Rattle.mi_entries.proofs.KeyedLemmas.{is_keyed}
 use Rattle.mi_core.proofs.PageLemmas.{flat_put, forest_put, linked_put, there_set, within}
 use Rattle.mi_entries.proofs.RecordLemmas.{not_living, records_insert, was_absent}
 use Rattle.mi_entries.proofs.ShowLemmas.{count_between}
-use Rattle.mi_entries.proofs.Tools.{not_true}
+use Rattle.mi_entries.proofs.FilterLemmas.{not_true}
 use Rattle.mi_tree.proofs.ListLemmas.{all_weaker}
 
 module _ (s : State) (k : Sound s) (a : ℕ) (r : Actor) (there : slice_get s.actors a ≡ Some r)
