@@ -1,0 +1,6 @@
+//! Splits and sweeps of leaves over any World.
+#![tactic(auto)]
+
+mod sweep;
+
+pub use sweep::SweepOp;
