@@ -1,5 +1,5 @@
 -- A sweep from section to section.
-use Rattle.std.proofs.Common.{◌≡◌, ℕ, ◌+◌, ◌<◌, ◌≤◌, Some, None, refl, sym, ◌∙◌, subst, arith}
+use Rattle.std.proofs.Common.{◌≡◌, ℕ, Some, None, refl, sym, ◌∙◌, subst, arith}
 use Rattle.mi_tree.specs.declared.answers.Look.{Look}
 use Rattle.mi_world.specs.declared.answers.Visit.{Visit}
 use Rattle.mi_world.specs.declared.answers.Visit.TheVariants.{Down, Right, Read}
@@ -9,10 +9,9 @@ use Rattle.mi_world.specs.Pages.{GoesRight}
 use Rattle.mi_world.specs.Splits.{Sweeps}
 use Rattle.mi_blink.specs.declared.walk.WalkTurn.{WalkTurn}
 use Rattle.mi_blink.specs.declared.walk.WalkTurn.TheVariants.{More, Done}
-use Rattle.mi_blink.specs.Descents.{Falls, Stands, descent, longest}
+use Rattle.mi_blink.specs.Descents.{Stands}
 use Rattle.mi_blink.proofs.DescentLemmas.{stands_down, stands_right, down_less, right_less, descent_longest, falls_by}
 use Rattle.mi_split.specs.declared.sweep.SweepOp.{SweepOp}
-use Rattle.mi_split.specs.declared.sweep.SweepState.{SweepState}
 use Rattle.mi_split.specs.declared.sweep.SweepState.TheVariants.{Looking, Sweeping, Over}
 use Rattle.mi_split.specs.Sweeping.{Ready, StateIsReady, Turned, Makes, Outcome, after_sweep}
 

@@ -1,5 +1,5 @@
 -- A sweep between its sections, and what a section of it does.
-use Rattle.std.specs.Prelude.{◌≡◌, ◌≤◌, ◌<◌, ◌+◌, ℕ, List, Some, None, IsTrue}
+use Rattle.std.specs.Prelude.{◌≡◌, ◌+◌, ℕ, List, Some, None}
 use Rattle.mi_tree.specs.declared.answers.Look.{Look}
 use Rattle.mi_world.specs.declared.answers.Visit.{Visit}
 use Rattle.mi_world.specs.declared.answers.Visit.TheVariants.{Down, Right, Read}
