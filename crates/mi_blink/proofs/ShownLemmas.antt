@@ -6,7 +6,7 @@ use Rattle.std.specs.List.{filter, AllByRecursion}
 use Rattle.std.specs.Ordering.{is_lt, nat_cmp}
 use Rattle.mi_base.specs.Sorting.{Ascends}
 use Rattle.mi_key.specs.declared.ranges.Interval.{Interval}
-use Rattle.mi_world.specs.Shown.{Shown, shown_cmp, within, below, from_on}
+use Rattle.mi_key.specs.Shown.{Shown, shown_cmp, within, below, from_on}
 
 module _ {X : Type 0} where
   pub filter_implied : (p q : X → Bool) → ((x : X) → p x ≡ true → q x ≡ true) → (xs : List X) → filter p (filter q xs) ≡ filter p xs

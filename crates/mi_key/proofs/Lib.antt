@@ -1,3 +1,4 @@
 pub mod ClusterLemmas
 pub mod DigitLemmas
 pub mod KeyLemmas
+pub mod FitLemmas

@@ -1,3 +1,4 @@
+pub mod Shown
 pub mod Clusters
 pub mod Entries
 pub mod Keys

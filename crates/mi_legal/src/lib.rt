@@ -3,4 +3,4 @@
 
 mod laws;
 
-pub use laws::right_replies_stay_right;
+pub use laws::{right_replies_stay_right, scans_are_right_at_the_end};

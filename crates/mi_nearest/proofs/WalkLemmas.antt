@@ -14,11 +14,12 @@ use Rattle.mi_base.specs.Sorting.{Ascends, SameElements}
 use Rattle.mi_rules.proofs.RuleLemmas.{bound_passes, not_less}
 use Rattle.mi_tree.specs.declared.outcomes.Leaf.{Leaf}
 use Rattle.mi_rules.specs.Passing.{IsBound, hull_passes, is_reached, kth_distance}
-use Rattle.mi_tree.proofs.ListLemmas.{all_joined}
+use Rattle.mi_tree.proofs.ListLemmas.{all_get, all_joined}
 use Rattle.mi_nearest.specs.declared.order.Rank.{Rank}
 use Rattle.mi_nearest.specs.Nearing.{first_rows}
 use Rattle.mi_nearest.specs.Order.{IsRank, IsRanked, leaves_at, rank_cmp}
-use Rattle.mi_nearest.proofs.FewLemmas.{few_nearer, first_without_all, nearer, none_nearer_last}
+use Rattle.mi_nearest.specs.Walking.{StopsAt, KeepsFirst, nearer_count, rows_at}
+use Rattle.mi_nearest.proofs.FewLemmas.{few_nearer, first_without_all, none_nearer_last}
 
 -- what holds of each holds of the one in the midst
 all_middle : {X : Type 0} (P : X → Type 0) (xs : List X) (y : X) (ys : List X) → AllByRecursion P (xs ++ y ∷ ys) → P y
@@ -29,12 +30,6 @@ all_middle P (x ∷ xs) y ys h = all_middle P xs y ys h.1
 pub all_later : {X : Type 0} (P : X → Type 0) (xs ys : List X) → AllByRecursion P (xs ++ ys) → AllByRecursion P ys
 all_later P [] ys h = h
 all_later P (x ∷ xs) ys h = all_later P xs ys h.1
-
--- and of the one at a place
-pub all_at : {X : Type 0} (P : X → Type 0) (xs : List X) (i : ℕ) (x : X) → AllByRecursion P xs → slice_get xs i ≡ Some x → P x
-all_at P [] i x h at = cc
-all_at P (y ∷ ys) zero x h at = subst P (let same : y ≡ x = cc in same) h.0
-all_at P (y ∷ ys) (suc i) x h at = all_at P ys i x h.1 at
 
 -- ranks that ascend have bounds that do
 rank_le : (a b : Rank) → is_lt (rank_cmp b a) ≡ false → a.bound ≤ b.bound
@@ -51,11 +46,6 @@ above_first r (y ∷ rest) h = (rank_le r y h.0, above_first r rest h.1)
 ascends_later : (done rest : List Rank) → Ascends rank_cmp (done ++ rest) → Ascends rank_cmp rest
 ascends_later [] rest a = a
 ascends_later (x ∷ done) rest a = ascends_later done rest a.1
-
--- the walk goes no further than a bound
-abbrev pub StopsAt : Option ℕ → ℕ → Type 0
-StopsAt None bound = ⊥
-StopsAt (Some worst) bound = worst < bound
 
 stops_up : (worst : Option ℕ) (low high : ℕ) → low ≤ high → StopsAt worst low → StopsAt worst high
 stops_up None low high le h = h
@@ -108,18 +98,9 @@ sum_kept t f none (x ∷ xs) =
       | false ↦ λ e. omega (arith, rest, none x e)
     ]) refl ∙ sym (sum_by-cons f x xs)
 
--- the rows of the leaves at ranks
-abbrev pub rows_at : List Leaf → (Leaf → List Row) → List Rank → List Row
-rows_at leaves rows_of ranks = flat_map rows_of (leaves_at leaves ranks)
-
 -- no row of the leaf is nearer than its bound
 abbrev pub NoNearer : List ℕ → (Leaf → List Row) → Leaf → Type 0
 NoNearer dq rows_of leaf = (bound : ℕ) → IsBound dq leaf (Some bound) → AllByRecursion (λ row. bound ≤ row.distance) (rows_of leaf)
-
--- these were opened: the rows are the first of theirs, and too few of theirs are nearer than a bound among them
-pub record Walked (k : ℕ) (leaves : List Leaf) (rows_of : Leaf → List Row) (done : List Rank) (rows : List Row) : Type 0 where
-  pub rows_are : rows ≡ first_rows k (rows_at leaves rows_of done)
-  pub few : AllByRecursion (λ r. nearer r.bound (rows_at leaves rows_of done) < k) done
 
 rows_more : (leaves : List Leaf) (rows_of : Leaf → List Row) (done : List Rank) (r : Rank) (leaf : Leaf) → slice_get leaves r.place ≡ Some leaf
     → rows_at leaves rows_of (done ++ r ∷ []) ≡ rows_at leaves rows_of done ++ rows_of leaf
@@ -127,18 +108,18 @@ rows_more leaves rows_of done r leaf at =
     ap (flat_map rows_of) (at_more leaves done (r ∷ []) ∙ ap (λ ls. leaves_at leaves done ++ ls) (at_one leaves r [] leaf at))
     ∙ flat_map-append rows_of (leaves_at leaves done) (leaf ∷ []) ∙ ap (λ xs. rows_at leaves rows_of done ++ xs) (append-nil (rows_of leaf))
 
-nearer_more : (bound : ℕ) (xs ys : List Row) → nearer bound (xs ++ ys) ≡ nearer bound xs + nearer bound ys
+nearer_more : (bound : ℕ) (xs ys : List Row) → nearer_count bound (xs ++ ys) ≡ nearer_count bound xs + nearer_count bound ys
 nearer_more bound xs ys = sum_by-append (λ (row : Row). cond (nat_lt row.distance bound) 1 0) xs ys
 
-nearer_none : (bound high : ℕ) (rows : List Row) → bound ≤ high → AllByRecursion (λ row. high ≤ row.distance) rows → nearer bound rows ≡ 0
+nearer_none : (bound high : ℕ) (rows : List Row) → bound ≤ high → AllByRecursion (λ row. high ≤ row.distance) rows → nearer_count bound rows ≡ 0
 nearer_none bound high [] le h = refl
 nearer_none bound high (row ∷ rows) le h =
     let near = h.0 in
     let no : nat_lt row.distance bound ≡ false = le-ltb row.distance bound (omega arith) in
-    sum_by-cons (λ (x : Row). cond (nat_lt x.distance bound) 1 0) row rows ∙ ap (λ b. cond b 1 0 + nearer bound rows) no ∙ zero-add (nearer bound rows) ∙ nearer_none bound high rows le h.1
+    sum_by-cons (λ (x : Row). cond (nat_lt x.distance bound) 1 0) row rows ∙ ap (λ b. cond b 1 0 + nearer_count bound rows) no ∙ zero-add (nearer_count bound rows) ∙ nearer_none bound high rows le h.1
 
 few_more : (k high : ℕ) (before more : List Row) (done : List Rank) → AllByRecursion (λ row. high ≤ row.distance) more → AllByRecursion (λ r. r.bound ≤ high) done
-    → AllByRecursion (λ r. nearer r.bound before < k) done → AllByRecursion (λ r. nearer r.bound (before ++ more) < k) done
+    → AllByRecursion (λ r. nearer_count r.bound before < k) done → AllByRecursion (λ r. nearer_count r.bound (before ++ more) < k) done
 few_more k high before more [] far low h = tt
 few_more k high before more (r ∷ done) far low h =
     let few = h.0 in
@@ -147,17 +128,17 @@ few_more k high before more (r ∷ done) far low h =
 -- one leaf more was opened, of no lesser bound, and not one where the walk stops
 pub walked_more : (dq : List ℕ) (k : ℕ) (leaves : List Leaf) (rows_of : Leaf → List Row) (done : List Rank) (rows new : List Row) (r : Rank) (is : IsRank dq leaves r) → 1 ≤ k
     → NoNearer dq rows_of is.leaf → AllByRecursion (λ x. x.bound ≤ r.bound) done → IfSome (kth_distance k rows) (λ w. r.bound ≤ w)
-    → Walked k leaves rows_of done rows → new ≡ first_rows k (rows_at leaves rows_of done ++ rows_of is.leaf) → Walked k leaves rows_of (done ++ r ∷ []) new
+    → KeepsFirst k leaves rows_of done rows → new ≡ first_rows k (rows_at leaves rows_of done ++ rows_of is.leaf) → KeepsFirst k leaves rows_of (done ++ r ∷ []) new
 walked_more dq k leaves rows_of done rows new r is one apart low next before new_is =
     let all = rows_at leaves rows_of done in
     let more = rows_more leaves rows_of done r is.leaf is.stands in
     let far = apart r.bound is.bound_is in
     let here = few_nearer k rows all r.bound one before.rows_are next in
-    let last : nearer r.bound (all ++ rows_of is.leaf) < k = omega (arith, nearer_more r.bound all (rows_of is.leaf), nearer_none r.bound r.bound (rows_of is.leaf) (omega arith) far, here) in
+    let last : nearer_count r.bound (all ++ rows_of is.leaf) < k = omega (arith, nearer_more r.bound all (rows_of is.leaf), nearer_none r.bound r.bound (rows_of is.leaf) (omega arith) far, here) in
     record {
       rows_are = new_is ∙ ap (first_rows k) (sym more);
-      few = subst (λ (xs : List Row). AllByRecursion (λ (x : Rank). nearer x.bound xs < k) (done ++ r ∷ [])) (sym more)
-          (all_joined (λ (x : Rank). nearer x.bound (all ++ rows_of is.leaf) < k) done (r ∷ []) (few_more k r.bound all (rows_of is.leaf) done far low before.few) (last, tt));
+      few = subst (λ (xs : List Row). AllByRecursion (λ (x : Rank). nearer_count x.bound xs < k) (done ++ r ∷ [])) (sym more)
+          (all_joined (λ (x : Rank). nearer_count x.bound (all ++ rows_of is.leaf) < k) done (r ∷ []) (few_more k r.bound all (rows_of is.leaf) done far low before.few) (last, tt));
     }
 
 no_nearer_than : (worst : Option ℕ) (bound : ℕ) (rows : List Row) → StopsAt worst bound → AllByRecursion (λ row. bound ≤ row.distance) rows → AllByRecursion (λ row. StopsAt worst row.distance) rows
@@ -171,7 +152,7 @@ far_rows dq leaves rows_of worst [] apart are stops = tt
 far_rows dq leaves rows_of worst (r ∷ rest) apart are stops =
     let is = are.0 in
     let P : Row → Type 0 = λ row. StopsAt worst row.distance in
-    let near = all_at (NoNearer dq rows_of) leaves r.place is.leaf apart is.stands r.bound is.bound_is in
+    let near = all_get (NoNearer dq rows_of) leaves r.place is.leaf apart is.stands r.bound is.bound_is in
     let one : rows_at leaves rows_of (r ∷ rest) ≡ rows_of is.leaf ++ rows_at leaves rows_of rest = ap (flat_map rows_of) (at_one leaves r rest is.leaf is.stands) in
     subst (AllByRecursion P) (sym one)
     (all_joined P (rows_of is.leaf) (rows_at leaves rows_of rest) (no_nearer_than worst r.bound (rows_of is.leaf) stops.0 near) (far_rows dq leaves rows_of worst rest apart are.1 stops.1))
@@ -186,7 +167,7 @@ far_out k rows before (row ∷ far) e h =
 
 -- where the walk stops at each that is left, the rows are the first of all
 rows_whole : (dq : List ℕ) (k : ℕ) (leaves : List Leaf) (rows_of : Leaf → List Row) (done rest : List Rank) (rows : List Row) → AllByRecursion (NoNearer dq rows_of) leaves → AllByRecursion (IsRank dq leaves) rest
-    → AllByRecursion (λ r. StopsAt (kth_distance k rows) r.bound) rest → Walked k leaves rows_of done rows → rows ≡ first_rows k (rows_at leaves rows_of (done ++ rest))
+    → AllByRecursion (λ r. StopsAt (kth_distance k rows) r.bound) rest → KeepsFirst k leaves rows_of done rows → rows ≡ first_rows k (rows_at leaves rows_of (done ++ rest))
 rows_whole dq k leaves rows_of done rest rows apart are stops walked =
     far_out k rows (rows_at leaves rows_of done) (rows_at leaves rows_of rest) walked.rows_are (far_rows dq leaves rows_of (kth_distance k rows) rest apart are stops)
     ∙ ap (first_rows k) (sym (ap (flat_map rows_of) (at_more leaves done rest) ∙ flat_map-append rows_of (leaves_at leaves done) (leaves_at leaves rest)))
@@ -225,7 +206,7 @@ flat_sum {X = X} f g (x ∷ xs) = sum_by-append f (g x) (flat_map g xs) ∙ ap (
 pub same_flat : {X Y : Type 0} (g : X → List Y) (xs ys : List X) → SameElements xs ys → SameElements (flat_map g xs) (flat_map g ys)
 same_flat {X = X} g xs ys same = record { sums = λ f. flat_sum f g xs ∙ same.sums (λ (x : X). sum_by f (g x)) ∙ sym (flat_sum f g ys) }
 
-low_bounds : (k : ℕ) (rows before : List Row) (done : List Rank) → rows ≡ first_rows k before → AllByRecursion (λ r. nearer r.bound before < k) done → AllByRecursion (λ r. IfSome (kth_distance k rows) (λ w. r.bound ≤ w)) done
+low_bounds : (k : ℕ) (rows before : List Row) (done : List Rank) → rows ≡ first_rows k before → AllByRecursion (λ r. nearer_count r.bound before < k) done → AllByRecursion (λ r. IfSome (kth_distance k rows) (λ w. r.bound ≤ w)) done
 low_bounds k rows before [] e few = tt
 low_bounds k rows before (r ∷ done) e few = (none_nearer_last k rows before r.bound e few.0, low_bounds k rows before done e few.1)
 
@@ -235,7 +216,7 @@ pub record Ended (dq : List ℕ) (k : ℕ) (leaves : List Leaf) (rows_of : Leaf 
   pub sums : (f : Leaf → ℕ) → sum_by (λ l. cond (is_reached dq (kth_distance k rows) l) (f l) 0) leaves ≡ sum_by f (leaves_at leaves done)
 
 pub walk_ends : (dq : List ℕ) (k : ℕ) (leaves : List Leaf) (rows_of : Leaf → List Row) (ranks done rest : List Rank) (rows : List Row) → IsRanked dq leaves ranks → ranks ≡ done ++ rest
-    → AllByRecursion (NoNearer dq rows_of) leaves → AllByRecursion (λ r. StopsAt (kth_distance k rows) r.bound) rest → Walked k leaves rows_of done rows → Ended dq k leaves rows_of ranks done rows
+    → AllByRecursion (NoNearer dq rows_of) leaves → AllByRecursion (λ r. StopsAt (kth_distance k rows) r.bound) rest → KeepsFirst k leaves rows_of done rows → Ended dq k leaves rows_of ranks done rows
 walk_ends dq k leaves rows_of ranks done rest rows ranked parts apart stops walked =
     let worst = kth_distance k rows in
     let are = subst (AllByRecursion (IsRank dq leaves)) parts ranked.are in

@@ -1,3 +1,4 @@
 pub mod Nearing
 pub mod Order
 pub mod Taking
+pub mod Walking

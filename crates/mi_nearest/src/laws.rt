@@ -1,16 +1,30 @@
 //! What is true of queries for the nearest at every list of entries. The functions do nothing.
-ghost use Rattle.std.specs.Prelude.{◌≡◌, ◌<◌, ◌≤◌, [], ◌∷◌, ◌++◌, ℕ, ℤ, List, Some, length, map};
+ghost use Rattle.std.specs.Prelude.{◌≡◌, ◌<◌, ◌≤◌, [], ◌∷◌, ◌++◌, ℕ, ℤ, List, IfSome, IsTrue, Some, length, map, slice_get};
+ghost use Rattle.std.specs.List.{AllByRecursion, sum_by};
 ghost use Rattle.std.specs.List.Sorted.{IsStrictlySortedBy};
 ghost use Rattle.std.specs.Ordering.{nat_cmp};
 ghost use Rattle.mi_base.specs.declared.records.LogEvent.{LogEvent};
 ghost use Rattle.mi_base.specs.declared.records.Row.{Row};
-ghost use Rattle.mi_base.specs.Configuration.{IsDepth};
+ghost use Rattle.mi_base.specs.Configuration.{Configuration, IsDepth, IsWithinLimits, metric_space, space_of};
+ghost use Rattle.mi_base.specs.Permutations.{distances};
 ghost use Rattle.mi_base.specs.Sorting.{SameElements};
-ghost use Rattle.mi_base.specs.Space.{MetricSpace, Space};
+ghost use Rattle.mi_base.specs.Space.{IsMetric, MetricSpace, Space};
+ghost use Rattle.mi_key.specs.declared.ranges.Interval.{Interval};
 ghost use Rattle.mi_key.specs.Clusters.{cluster_of};
 ghost use Rattle.mi_key.specs.Entries.{Offering};
+ghost use Rattle.mi_key.specs.Keys.{parts_of};
+ghost use Rattle.mi_key.specs.Ranges.{is_within};
+ghost use Rattle.mi_key.specs.Shown.{Shown, offerings, within};
+ghost use Rattle.mi_nearest.specs.declared.order.Rank.{Rank};
 ghost use Rattle.mi_nearest.specs.Nearing.{Nearing, TakesNearest, first_rows, worst_of};
+ghost use Rattle.mi_nearest.specs.Order.{IsRanked, leaves_at};
+ghost use Rattle.mi_nearest.specs.Walking.{HasNearest, OpensLeaf, StopsAt, KeepsFirst, rows_in};
+ghost use Rattle.mi_rules.specs.Passing.{kth_distance};
+ghost use Rattle.mi_rules.specs.Spans.{is_near};
+ghost use Rattle.mi_rules.specs.Standing.{ShowsLive};
+ghost use Rattle.mi_tree.specs.declared.outcomes.Leaf.{Leaf};
 ghost use Rattle.mi_tree.specs.Cells.{AllMaySplit, grid_of};
+ghost use Rattle.mi_tree.specs.Legal.{LegalLog, cells_of};
 ghost use Rattle.mi_tree.specs.Counting.{catalog_after};
 
 /// To be offered one list and then another is to be offered both.
@@ -32,4 +46,21 @@ pub fn first_rows_stay()
 pub fn places_ascend()
     ensures { (space : Space) (levels : ℕ) → length space.pivots ≤ 32 → IsDepth (length space.pivots) levels → (log : List LogEvent) → AllMaySplit (grid_of space levels) log
         → IsStrictlySortedBy nat_cmp (map (λ leaf. cluster_of (length space.pivots) levels leaf.prefix) (catalog_after (grid_of space levels) log)) }
+{}
+
+/// A query that opens the ranked leaves one after another, and reads of each the keys that are near at the last row's distance of
+/// then, has the first rows of all their objects. Where it stops at the next bound, or none is left, its rows are the scan, and the
+/// leaves that it opened are those that have to be.
+pub fn ranked_leaves_have_the_nearest()
+    ensures opens { (c : Configuration) → IsWithinLimits c → (log : List LogEvent) → LegalLog c log → (query : List ℤ) → IsTrue ((metric_space c).fits query) → IsMetric (metric_space c)
+        → (xs : List Shown) → ShowsLive c log xs → (count : ℕ) → 1 ≤ count → (ranks done rest : List Rank) (rank : Rank) → IsRanked (distances (space_of c) query) (cells_of c log) ranks → ranks ≡ done ++ rank ∷ rest
+        → (leaf : Leaf) → slice_get (cells_of c log) rank.place ≡ Some leaf → (old new : Nearing) (steps new_steps : ℕ) (span : Interval) → old.count ≡ count
+        → KeepsFirst count (cells_of c log) (rows_in c query xs) done old.rows → IfSome (kth_distance count old.rows) (λ worst. rank.bound ≤ worst)
+        → IfSome leaf.hull (λ hull. (key : ℕ) → is_within span key ≡ is_near (distances (space_of c) query) (kth_distance count old.rows) c.levels leaf.prefix hull (parts_of key))
+        → TakesNearest (metric_space c) query old steps (offerings (within span xs)) new new_steps → OpensLeaf count (cells_of c log) (rows_in c query xs) (done ++ rank ∷ []) leaf new.rows steps new_steps }
+    ensures ends { (c : Configuration) → IsWithinLimits c → (log : List LogEvent) → LegalLog c log → (query : List ℤ) → IsTrue ((metric_space c).fits query) → IsMetric (metric_space c)
+        → (xs : List Shown) → ShowsLive c log xs → (count : ℕ) (ranks done rest : List Rank) (rows : List Row) → IsRanked (distances (space_of c) query) (cells_of c log) ranks → ranks ≡ done ++ rest
+        → KeepsFirst count (cells_of c log) (rows_in c query xs) done rows → AllByRecursion (λ rank. StopsAt (kth_distance count rows) rank.bound) rest
+        → (opened steps : ℕ) → opened ≡ sum_by (λ leaf. 1) (leaves_at (cells_of c log) done) → steps ≤ sum_by (λ leaf. leaf.count) (leaves_at (cells_of c log) done)
+        → HasNearest c log query count rows opened steps }
 {}

@@ -10,7 +10,8 @@ use Rattle.mi_base.specs.Sorting.{SameElements}
 use Rattle.mi_base.proofs.SortingLemmas.{same_filter, same_map}
 use Rattle.mi_board.specs.Boards.{BoardState, grid_in}
 use Rattle.mi_key.specs.declared.entries.Entry.{Entry}
-use Rattle.mi_plain.specs.Plain.{IsKept, IsPlain, grid_for, object_in}
+use Rattle.mi_plain.specs.Plain.{IsKept, IsPlain, object_in}
+use Rattle.mi_tree.specs.Placing.{grid_under}
 use Rattle.mi_tree.specs.declared.counts.Placed.{Placed}
 use Rattle.mi_tree.specs.Counting.{belongs, placed_object}
 
@@ -27,10 +28,10 @@ gathered p es = map placed_entry (filter (entry_begins p) es)
 
 -- the entries of a map are gathered as its objects are
 gathered_objects : (c : Configuration) (log : List LogEvent) (p : List ℕ) (entries : List (ℕ × Entry)) → AllByRecursion (λ e. IsKept c log e.0 e.1) entries
-    → gathered p (values_of entries) ≡ map (placed_object (grid_for c)) (filter (belongs (grid_for c) p) (map object_in entries))
+    → gathered p (values_of entries) ≡ map (placed_object (grid_under c)) (filter (belongs (grid_under c) p) (map object_in entries))
 gathered_objects c log p [] h = refl
 gathered_objects c log p (e ∷ es) h =
-    let g = grid_for c in
+    let g = grid_under c in
     let o : Object = object_in e in
     let perm_is : permutation_of e.1.dists.items ≡ g.perm e.1.vector = ap permutation_of h.0.dists_are in
     let placed_is : placed_entry e.1 ≡ placed_object g o = ap (λ (ds : List ℕ). record { perm = permutation_of ds; distance = key_distance ds }) h.0.dists_are in

@@ -21,10 +21,14 @@ use Rattle.mi_key.specs.declared.keys.KeyParts.{KeyParts}
 use Rattle.mi_key.specs.Clusters.{cluster_of}
 use Rattle.mi_key.specs.Keys.{FitKey, key_of, parts_of}
 use Rattle.mi_key.proofs.ClusterLemmas.{cluster-small}
-use Rattle.mi_key.proofs.KeyLemmas.{made_of, parts_of-key_of}
+use Rattle.mi_key.proofs.KeyLemmas.{made_of}
 use Rattle.mi_tree.specs.Growing.{GrowsBySplits}
-use Rattle.mi_plain.specs.Plain.{IsKept, IsPlain, child_key, grid_for, leaf_key, moves, object_in, child_entry}
-use Rattle.mi_plain.proofs.KeyLemmas.{all_below-permutation, distance_fits, id_fits}
+use Rattle.mi_plain.specs.Plain.{IsKept, IsPlain, child_key, moves, object_in, child_entry}
+use Rattle.mi_rules.specs.Standing.{leaf_key, leaf_parts}
+use Rattle.mi_tree.specs.Placing.{grid_under}
+use Rattle.mi_key.proofs.FitLemmas.{distance_fits, id_fits}
+use Rattle.mi_rules.proofs.BelowLemmas.{all_below-permutation}
+use Rattle.mi_rules.proofs.StandingLemmas.{leaf_key_parts}
 use Rattle.mi_tree.specs.Cells.{IsGrid, depth, leaf_of}
 use Rattle.mi_tree.specs.Legal.{LegalLog, MayFollow}
 use Rattle.mi_tree.proofs.CatalogLemmas.{depth_is}
@@ -32,15 +36,6 @@ use Rattle.mi_tree.proofs.GridLemmas.{space_is_grid}
 use Rattle.mi_tree.proofs.LeafLemmas.{leaf_is}
 use Rattle.mi_tree.proofs.LegalLemmas.{all_may, updates_of_split, wanted}
 use Rattle.mi_tree.proofs.SplitsLemmas.{deeper, depth_within}
-
--- what the key of an object is made of in its leaf
-abbrev pub leaf_parts : Configuration → List LogEvent → ℕ → List ℤ → ℕ → KeyParts
-leaf_parts c log id v birth = record {
-  cluster = cluster_of (length c.pivots) c.levels (leaf_of (grid_for c) log ((grid_for c).perm v));
-  distance = (grid_for c).distance v;
-  id = id;
-  birth = birth;
-}
 
 same_made : (c d i b c' d' i' b' : ℕ) → c ≡ c' → d ≡ d' → i ≡ i' → b ≡ b' → made_of c d i b ≡ made_of c' d' i' b'
 same_made c d i b c' d' i' b' p q r s = cc
@@ -50,28 +45,15 @@ abbrev moved : List ℕ → ℕ → Entry → Entry
 moved p levels e = record { key = child_key p levels e; vector = e.vector; dists = e.dists; birth = e.birth; death = e.death }
 
 module _ (c : Configuration) (limits : IsWithinLimits c) where
-  pub config_grid : IsGrid (grid_for c)
+  pub config_grid : IsGrid (grid_under c)
   config_grid = space_is_grid (space_of c) c.levels limits.few_pivots limits.levels
-
-  -- the parts of an object's key fit their bits
-  fit_leaf : (log : List LogEvent) (id : ℕ) (v : List ℤ) (birth : ℕ) → id < 2 ^ 40 → (grid_for c).distance v < 2 ^ 27 → birth ≤ c.updates → FitKey (leaf_parts c log id v birth)
-  fit_leaf log id v birth low near born =
-      let g = grid_for c in
-      let perms = config_grid.perms v in
-      let small = all_below-permutation (length c.pivots) (depth g log (g.perm v)) (g.perm v) perms.1 perms.0 in
-      record {
-        fit_cluster = omega (arith, cluster-small (length c.pivots) c.levels (leaf_of g log (g.perm v)) limits.few_pivots (depth_is (length c.pivots) c.levels limits.levels).0 small);
-        fit_distance = near;
-        fit_id = low;
-        fit_birth = omega (arith, born, limits.updates.1);
-      }
 
   -- what the key of an entry is made of
   pub parts_kept : (log : List LogEvent) (id : ℕ) (e : Entry) → IsKept c log id e → parts_of e.key ≡ leaf_parts c log id e.vector e.birth
   parts_kept log id e k =
       let low : id < 2 ^ 40 = subst (λ (n : ℕ). n < 2 ^ 40) k.named (id_fits e.key) in
-      let near : (grid_for c).distance e.vector < 2 ^ 27 = subst (λ (n : ℕ). n < 2 ^ 27) k.distance_is (distance_fits e.key) in
-      ap parts_of k.key_is ∙ parts_of-key_of (leaf_parts c log id e.vector e.birth) (fit_leaf log id e.vector e.birth low near k.born)
+      let near : (grid_under c).distance e.vector < 2 ^ 27 = subst (λ (n : ℕ). n < 2 ^ 27) k.distance_is (distance_fits e.key) in
+      ap parts_of k.key_is ∙ leaf_key_parts c limits log id e.vector e.birth low near k.born
 
   -- there are pivots where a leaf is to be split
   pub some_pivots : (log : List LogEvent) (p : List ℕ) → MayFollow c log (Split p) → 1 ≤ length c.pivots
@@ -85,9 +67,9 @@ module _ (c : Configuration) (limits : IsWithinLimits c) where
     after = log ++ Split p ∷ []
 
     -- the leaf of an object after the split
-    leaf_moved : (id : ℕ) (v : List ℤ) → begins p ((grid_for c).perm v) ≡ true → leaf_of (grid_for c) after ((grid_for c).perm v) ≡ take (length p + 1) ((grid_for c).perm v)
+    leaf_moved : (id : ℕ) (v : List ℤ) → begins p ((grid_under c).perm v) ≡ true → leaf_of (grid_under c) after ((grid_under c).perm v) ≡ take (length p + 1) ((grid_under c).perm v)
     leaf_moved id v b =
-        let g = grid_for c in
+        let g = grid_under c in
         let perm = g.perm v in
         let mays = all_may c log legal in
         let leaf = (wanted c log p may).0 in
@@ -97,9 +79,9 @@ module _ (c : Configuration) (limits : IsWithinLimits c) where
         let deep : depth g after perm ≡ depth g log perm + 1 = deeper g config_grid log mays p (record { id = id; vector = v }) leaf ∙ (rw b refl) in
         ap (λ (n : ℕ). take n perm) (deep ∙ ap (λ (n : ℕ). n + 1) (sym size))
 
-    leaf_stays : (id : ℕ) (v : List ℤ) → begins p ((grid_for c).perm v) ≡ false → leaf_of (grid_for c) after ((grid_for c).perm v) ≡ leaf_of (grid_for c) log ((grid_for c).perm v)
+    leaf_stays : (id : ℕ) (v : List ℤ) → begins p ((grid_under c).perm v) ≡ false → leaf_of (grid_under c) after ((grid_under c).perm v) ≡ leaf_of (grid_under c) log ((grid_under c).perm v)
     leaf_stays id v b =
-        let g = grid_for c in
+        let g = grid_under c in
         let perm = g.perm v in
         let same : depth g log perm + 0 ≡ depth g log perm = omega arith in
         let deep : depth g after perm ≡ depth g log perm = deeper g config_grid log (all_may c log legal) p (record { id = id; vector = v }) (wanted c log p may).0 ∙ (rw b same) in
@@ -122,7 +104,7 @@ module _ (c : Configuration) (limits : IsWithinLimits c) where
     -- each entry stands under the key of its leaf after the split
     kept_rekeyed : (id : ℕ) (e : Entry) → IsKept c log id e → IsKept c after id (child_entry p c.levels e)
     kept_rekeyed id e k =
-        let g = grid_for c in
+        let g = grid_under c in
         let v = e.vector in
         let perm_is : permutation_of e.dists.items ≡ g.perm v = ap permutation_of k.dists_are in
         let low : id < 2 ^ 40 = subst (λ (n : ℕ). n < 2 ^ 40) k.named (id_fits e.key) in
@@ -143,7 +125,7 @@ module _ (c : Configuration) (limits : IsWithinLimits c) where
               let made : KeyParts = record { cluster = cluster_of (length e.dists.items) c.levels (take (length p + 1) (permutation_of e.dists.items)); distance = (parts_of e.key).distance; id = (parts_of e.key).id; birth = (parts_of e.key).birth } in
               let made_is : made ≡ leaf_parts c after id v e.birth = same_made _ _ _ _ _ _ _ _ cluster_is k.distance_is k.named (ap (λ (q : KeyParts). q.birth) parts) in
               let key_is : child_key p c.levels e ≡ leaf_key c after id v e.birth = ap key_of made_is in
-              let back : parts_of (child_key p c.levels e) ≡ leaf_parts c after id v e.birth = ap parts_of key_is ∙ parts_of-key_of (leaf_parts c after id v e.birth) (fit_leaf after id v e.birth low near k.born) in
+              let back : parts_of (child_key p c.levels e) ≡ leaf_parts c after id v e.birth = ap parts_of key_is ∙ leaf_key_parts c limits after id v e.birth low near k.born in
               subst Keeps (sym is) (record {
                 fits = k.fits;
                 dists_are = k.dists_are;

@@ -32,7 +32,9 @@ use Rattle.mi_tree.specs.Legal.{cells_of}
 use Rattle.mi_tree.specs.Cells.{Grid, depth_after, leaf_of}
 use Rattle.mi_tree.proofs.LegalLemmas.{live_updated}
 use Rattle.mi_tree.proofs.ListLemmas.{all_weaker}
-use Rattle.mi_plain.specs.Plain.{IsKept, IsPlain, grid_for, leaf_key, object_in}
+use Rattle.mi_plain.specs.Plain.{IsKept, IsPlain, object_in}
+use Rattle.mi_rules.specs.Standing.{leaf_key}
+use Rattle.mi_tree.specs.Placing.{grid_under}
 use Rattle.mi_plain.proofs.EntryLemmas.{found, absent_looked_up, same_inserted, same_removed, all_inserted, all_removed}
 use Rattle.mi_plain.proofs.SplittingLemmas.{plain_actor}
 
@@ -43,7 +45,7 @@ leaf_updated g log session op u perm = ap (λ n. take n perm) (fold-append (dept
 -- so it keeps the key of each object
 key_updated : (c : Configuration) (log : List LogEvent) (session op : ℕ) (u : Update) (id : ℕ) (v : List ℤ) (birth : ℕ) → leaf_key c (log ++ Made session op u ∷ []) id v birth ≡ leaf_key c log id v birth
 key_updated c log session op u id v birth =
-    let g = grid_for c in
+    let g = grid_under c in
     ap (λ (p : List ℕ). key_of (record { cluster = cluster_of (length c.pivots) c.levels p; distance = g.distance v; id = id; birth = birth })) (leaf_updated g log session op u (g.perm v))
 
 kept_updated : (c : Configuration) (log : List LogEvent) (session op : ℕ) (u : Update) (id : ℕ) (e : Entry) → IsKept c log id e → IsKept c (log ++ Made session op u ∷ []) id e

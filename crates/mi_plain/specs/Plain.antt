@@ -11,24 +11,12 @@ use Rattle.mi_board.specs.Boards.{BoardState}
 use Rattle.mi_key.specs.declared.entries.Entry.{Entry}
 use Rattle.mi_key.specs.Clusters.{cluster_of}
 use Rattle.mi_key.specs.Keys.{key_of, parts_of}
-use Rattle.mi_tree.specs.Cells.{Grid, grid_of, leaf_of}
-
--- how the settings' space places vectors
-abbrev pub grid_for : Configuration → Grid
-grid_for c = grid_of (space_of c) c.levels
+use Rattle.mi_rules.specs.Standing.{leaf_key}
+use Rattle.mi_tree.specs.Placing.{grid_under}
 
 -- a map's entry as an object
 abbrev pub object_in : ℕ × Entry → Object
 object_in e = record { id = e.0; vector = e.1.vector }
-
--- the key of an object in the leaf that it belongs to after a log
-abbrev pub leaf_key : Configuration → List LogEvent → ℕ → List ℤ → ℕ → ℕ
-leaf_key c log id vector birth = key_of (record {
-  cluster = cluster_of (length c.pivots) c.levels (leaf_of (grid_for c) log ((grid_for c).perm vector));
-  distance = (grid_for c).distance vector;
-  id = id;
-  birth = birth;
-})
 
 -- an entry has its vector's distances, and stands under the key of its leaf, which tells its identifier and its key distance
 pub record IsKept (c : Configuration) (log : List LogEvent) (id : ℕ) (e : Entry) : Type 0 where
@@ -37,7 +25,7 @@ pub record IsKept (c : Configuration) (log : List LogEvent) (id : ℕ) (e : Entr
   pub born : e.birth ≤ c.updates
   pub key_is : e.key ≡ leaf_key c log id e.vector e.birth
   pub named : (parts_of e.key).id ≡ id
-  pub distance_is : (parts_of e.key).distance ≡ (grid_for c).distance e.vector
+  pub distance_is : (parts_of e.key).distance ≡ (grid_under c).distance e.vector
   pub lives : e.death ≡ None
 
 -- the map has the live objects, each under the key of its leaf, beside a board of a session and a splitter

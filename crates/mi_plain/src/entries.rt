@@ -1,7 +1,8 @@
 //! Entries under the keys of their leaves.
 ghost use Rattle.std.specs.Prelude.{◌≡◌, ◌≤◌, OnOk};
 ghost use Rattle.std.specs.List.{AllByRecursion};
-ghost use Rattle.mi_plain.specs.Opening.{AreComparable, offerings, entries_in_span};
+ghost use Rattle.mi_key.specs.Shown.{offerings, within};
+ghost use Rattle.mi_plain.specs.Opening.{AreComparable, all_shown};
 ghost use Rattle.mi_plain.specs.Plain.{child_entry};
 ghost use Rattle.mi_nearest.specs.Nearing.{TakesNearest};
 ghost use Rattle.mi_range.specs.Ranging.{TakesRange};
@@ -38,7 +39,7 @@ fn offer_in<S: Sieve>(
     sieve: &mut S,
 ) -> Result<(), NoMemory>
     requires taken { AllByRecursion (λ e. S.takes sieve.old e.1) entries.now.entries }
-    ensures { OnOk result (S.offered sieve.old (offerings (entries_in_span span.now entries.now.entries)) sieve.new) }
+    ensures { OnOk result (S.offered sieve.old (offerings (within span.now (all_shown entries.now.entries))) sieve.new) }
 {
     for (_, entry) in entries.iter() {
         if span.has(&entry.key) {
@@ -59,7 +60,7 @@ pub fn offer_span<M: Metric, L: Ledger>(
     steps: &mut Steps<L>,
 ) -> Result<(), NoMemory>
     requires { AreComparable (M.space metric.now) query.now work.old.dists entries.now.entries }
-    ensures { OnOk result (TakesRange (M.space metric.now) query.now work.old steps.old (offerings (entries_in_span span.now entries.now.entries)) work.new steps.new) }
+    ensures { OnOk result (TakesRange (M.space metric.now) query.now work.old steps.old (offerings (within span.now (all_shown entries.now.entries))) work.new steps.new) }
 {
     let mut sieve = RangeSieve {
         work,
@@ -80,7 +81,7 @@ pub fn offer_nearest<M: Metric, L: Ledger>(
     steps: &mut Steps<L>,
 ) -> Result<(), NoMemory>
     requires { AreComparable (M.space metric.now) query.now work.old.dists entries.now.entries }
-    ensures { OnOk result (TakesNearest (M.space metric.now) query.now work.old steps.old (offerings (entries_in_span span.now entries.now.entries)) work.new steps.new) }
+    ensures { OnOk result (TakesNearest (M.space metric.now) query.now work.old steps.old (offerings (within span.now (all_shown entries.now.entries))) work.new steps.new) }
 {
     let mut sieve = NearestSieve {
         work,

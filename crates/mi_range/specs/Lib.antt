@@ -1,2 +1,3 @@
 pub mod Ranging
 pub mod Taking
+pub mod Opening

@@ -1,10 +1,23 @@
 //! What is true of range queries at every list of entries. The functions do nothing.
-ghost use Rattle.std.specs.Prelude.{◌≡◌, [], ◌++◌, ℕ, ℤ, List, Bool, nat_le, false};
+ghost use Rattle.std.specs.Prelude.{◌≡◌, ◌+◌, [], ◌++◌, ℕ, ℤ, List, Bool, IsTrue, Some, nat_le, false, slice_get, take, true};
 ghost use Rattle.std.specs.List.{AllByRecursion, filter};
+ghost use Rattle.mi_base.specs.declared.records.LogEvent.{LogEvent};
+ghost use Rattle.mi_base.specs.Configuration.{Configuration, IsWithinLimits, metric_space, space_of};
 ghost use Rattle.mi_base.specs.History.{Object, hits};
-ghost use Rattle.mi_base.specs.Space.{MetricSpace};
+ghost use Rattle.mi_base.specs.Permutations.{distances};
+ghost use Rattle.mi_base.specs.Space.{IsMetric, MetricSpace};
+ghost use Rattle.mi_key.specs.declared.ranges.Interval.{Interval};
 ghost use Rattle.mi_key.specs.Entries.{Offering};
+ghost use Rattle.mi_key.specs.Keys.{parts_of};
+ghost use Rattle.mi_key.specs.Ranges.{is_within};
+ghost use Rattle.mi_key.specs.Shown.{Shown, offerings, within};
+ghost use Rattle.mi_range.specs.Opening.{HasScan, IsFresh, leaf_offered, leaves_offered};
 ghost use Rattle.mi_range.specs.Ranging.{Ranging, TakesRange};
+ghost use Rattle.mi_rules.specs.Passing.{passes};
+ghost use Rattle.mi_rules.specs.Spans.{is_in_span};
+ghost use Rattle.mi_rules.specs.Standing.{ShowsLive};
+ghost use Rattle.mi_tree.specs.declared.outcomes.Leaf.{Leaf};
+ghost use Rattle.mi_tree.specs.Legal.{LegalLog, cells_of};
 
 /// To be offered one list and then another is to be offered both.
 pub fn taking_goes_on()
@@ -17,4 +30,17 @@ pub fn taking_goes_on()
 pub fn far_objects_are_no_rows()
     ensures { (m : MetricSpace) (query : List ℤ) (radius : ℕ) (p : Object → Bool) (objects : List Object)
         → AllByRecursion (λ o. p o ≡ false → nat_le (m.d query o.vector) radius ≡ false) objects → hits m query radius (filter p objects) ≡ hits m query radius objects }
+{}
+
+/// A query that is offered, of each leaf that passes, the live objects whose keys the leaf's span has, has the rows of the scan,
+/// and was compared with the candidates. What is offered of a leaf comes after what was offered of those before it.
+pub fn leaves_that_pass_have_the_scan()
+    ensures scan { (c : Configuration) → IsWithinLimits c → (log : List LogEvent) → LegalLog c log → (query : List ℤ) (radius : ℕ) (xs : List Shown) → ShowsLive c log xs
+        → IsMetric (metric_space c) → IsTrue ((metric_space c).fits query) → (first work : Ranging) (steps new_steps : ℕ) → IsFresh (distances (space_of c) query) radius first
+        → TakesRange (metric_space c) query first steps (leaves_offered (distances (space_of c) query) radius c.levels xs (cells_of c log)) work new_steps
+        → HasScan c log query radius steps work new_steps }
+    ensures leaf { (dq : List ℕ) (radius levels : ℕ) (xs : List Shown) (leaves : List Leaf) (place : ℕ) (leaf : Leaf) → slice_get leaves place ≡ Some leaf
+        → leaves_offered dq radius levels xs (take (place + 1) leaves) ≡ leaves_offered dq radius levels xs (take place leaves) ++ leaf_offered dq radius levels xs leaf }
+    ensures span { (dq : List ℕ) (radius levels : ℕ) (xs : List Shown) (leaf : Leaf) (span : Interval) → passes dq radius leaf ≡ true
+        → ((key : ℕ) → is_within span key ≡ is_in_span dq radius levels leaf.prefix (parts_of key)) → offerings (within span xs) ≡ leaf_offered dq radius levels xs leaf }
 {}

@@ -269,7 +269,7 @@ first_bounded most dists [] h = omega arith
 first_bounded most dists (p ∷ ps) h = h p
 
 -- a key has place for the distance of an answer
-distance_small : (space : Space) (query object : List ℤ) (r : ℕ) → IsAnswer space query object r → key_distance (distances space object) < 2 ^ 27
+pub distance_small : (space : Space) (query object : List ℤ) (r : ℕ) → IsAnswer space query object r → key_distance (distances space object) < 2 ^ 27
 distance_small space query object r a =
     let dists = distances space object in
     let first = first_bounded 128000000 dists (permutation_of dists) (bounded_at space.metric a.metric object a.object_fits space.pivots a.pivots_fit) in

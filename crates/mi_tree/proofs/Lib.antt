@@ -13,3 +13,5 @@ pub mod LegalLemmas
 pub mod SplitsLemmas
 pub mod FitLemmas
 pub mod GrowingLemmas
+pub mod LimitLemmas
+pub mod SumLemmas

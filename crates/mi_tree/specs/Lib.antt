@@ -6,3 +6,4 @@ pub mod Growing
 pub mod Legal
 pub mod LoneCell
 pub mod Order
+pub mod Placing

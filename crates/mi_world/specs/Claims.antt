@@ -8,7 +8,7 @@ use Rattle.mi_tree.specs.Counting.{leaves_beginning, is_wanted}
 use Rattle.mi_tree.specs.Legal.{cells_of}
 use Rattle.mi_world.specs.declared.answers.ShardClaim.{ShardClaim}
 use Rattle.mi_world.specs.declared.answers.ShardClaim.TheVariants.{Taken as ShardTaken, Held as ShardHeld}
-use Rattle.mi_world.specs.Shown.{grid_under}
+use Rattle.mi_tree.specs.Placing.{grid_under}
 use Rattle.mi_world.specs.View.{View, Later, SameUpdate, SameLeaf, SameBoard, SamePage, SameTry, SeesBoard, IsOther, shard_of, SameApart, prefix_or}
 
 -- a leaf is claimed, and it is that of the permutation

@@ -3,7 +3,8 @@ use Rattle.std.specs.List.{AllByRecursion}
 use Rattle.mi_key.specs.declared.entries.Entry.{Entry}
 use Rattle.mi_key.specs.Entries.{Offering, offering_of}
 use Rattle.mi_key.specs.Ranges.{is_within}
-use Rattle.mi_plain.specs.Opening.{offerings, entries_in_span}
+use Rattle.mi_key.specs.Shown.{offerings, within}
+use Rattle.mi_plain.specs.Opening.{all_shown}
 use Rattle.mi_tree.proofs.ListLemmas.{all_weaker}
 use Rattle.mi_plain.proofs.entries.offer_in.Goals as goal
 
@@ -27,7 +28,7 @@ loop-entry-preserved-then-has g c =
     let u = c.offer.new.self in
     let e : ℕ × Entry = (c.in-Some.field-0-0.now, c.in-Some.entry.now) in
     let rest = c.next.new.self in
-    let read : List (ℕ × Entry) → List Offering = λ es. offerings (entries_in_span c.args.span.now es) in
+    let read : List (ℕ × Entry) → List Offering = λ es. offerings (within c.args.span.now (all_shown es)) in
     let has : is_within c.args.span.now e.1.key ≡ true = sym c.has.ensures ∙ c.if-has.true in
     let one : S.offered s (offering_of e.1 ∷ []) u = g.met.S.Sieve.more s c.room.new.self u [] (offering_of e.1 ∷ []) c.in_ok-room.ensures.same c.offer.ensures.offered in
     let all = subst (AllByRecursion (λ (x : ℕ × Entry). S.takes s x.1)) c.in-Some.ensures.steps c.loop-entry.invariant.takes in
@@ -44,7 +45,7 @@ loop-entry-preserved g c =
     let s = c.loop-entry.sieve in
     let e : ℕ × Entry = (c.in-Some.field-0-0.now, c.in-Some.entry.now) in
     let rest = c.next.new.self in
-    let read : List (ℕ × Entry) → List Offering = λ es. offerings (entries_in_span c.args.span.now es) in
+    let read : List (ℕ × Entry) → List Offering = λ es. offerings (within c.args.span.now (all_shown es)) in
     let hasnt : is_within c.args.span.now e.1.key ≡ false = sym c.has.ensures ∙ c.if-has.false in
     let all = subst (AllByRecursion (λ (x : ℕ × Entry). S.takes s x.1)) c.in-Some.ensures.steps c.loop-entry.invariant.takes in
     record {
@@ -56,7 +57,7 @@ pub returns : goal.returns
 returns g c =
     let S = g.S.Sieve in
     let s = c.loop-entry.sieve in
-    let read : List (ℕ × Entry) → List Offering = λ es. offerings (entries_in_span c.args.span.now es) in
+    let read : List (ℕ × Entry) → List Offering = λ es. offerings (within c.args.span.now (all_shown es)) in
     let begun : c.into_iter-entry-iterator.result ≡ c.args.entries.now.entries = cc (c.into_iter-entry-iterator.ensures.into_iter_gives, c.iter-entry-items.ensures.rest) in
     let none : S.offered s (read c.loop-entry.entry-iterator) s = subst (λ (es : List (ℕ × Entry)). S.offered s (read es) s) (sym c.in-None.ensures.steps.0) (g.met.S.Sieve.none s) in
     subst (λ (es : List (ℕ × Entry)). S.offered c.args.sieve.now (read es) s) begun (c.loop-entry.invariant.offered s none)

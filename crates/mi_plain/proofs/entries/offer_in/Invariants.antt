@@ -1,4 +1,5 @@
-use Rattle.mi_plain.specs.Opening.{offerings, entries_in_span}
+use Rattle.mi_key.specs.Shown.{offerings, within}
+use Rattle.mi_plain.specs.Opening.{all_shown}
 use Rattle.std.specs.List.{AllByRecursion}
 use Rattle.mi_plain.proofs.entries.offer_in.Given as goal
 
@@ -7,6 +8,6 @@ abbrev pub invariant-loop-entry : goal.invariant-loop-entry
 invariant-loop-entry g l =
     record {
       takes : AllByRecursion (λ e. g.S.Sieve.takes l.sieve e.1) l.entry-iterator;
-      offered : (t : g.row.S.Denot) → g.S.Sieve.offered l.sieve (offerings (entries_in_span l.span l.entry-iterator)) t
-          → g.S.Sieve.offered l.initial.sieve (offerings (entries_in_span l.span l.initial.entry-iterator)) t;
+      offered : (t : g.row.S.Denot) → g.S.Sieve.offered l.sieve (offerings (within l.span (all_shown l.entry-iterator))) t
+          → g.S.Sieve.offered l.initial.sieve (offerings (within l.span (all_shown l.initial.entry-iterator))) t;
     }

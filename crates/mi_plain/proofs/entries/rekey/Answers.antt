@@ -3,7 +3,7 @@ use Rattle.std.specs.Prelude.{IsTrue}
 use Rattle.mi_base.specs.Prefixes.{all_below}
 use Rattle.mi_base.specs.Permutations.{is_permutation}
 use Rattle.mi_base.proofs.PivotLemmas.{is_permutation-permutation_of}
-use Rattle.mi_plain.proofs.KeyLemmas.{all_below-permutation}
+use Rattle.mi_rules.proofs.BelowLemmas.{all_below-permutation}
 use Rattle.mi_plain.proofs.entries.rekey.Goals as goal
 
 pub cluster_number-cluster-requires-clause-pivots : goal.cluster_number-cluster-requires-clause-pivots

@@ -4,7 +4,7 @@ use Rattle.mi_board.specs.Boards.{BoardState}
 use Rattle.mi_tree.specs.declared.outcomes.Leaf.{Leaf}
 use Rattle.mi_tree.specs.Catalog.{CatalogState}
 use Rattle.mi_tree.specs.Legal.{cells_of}
-use Rattle.mi_plain.proofs.OpenedLemmas.{taken_more}
+use Rattle.mi_tree.proofs.SumLemmas.{taken_more}
 use Rattle.mi_plain.proofs.plain.Plain.cells.Goals as goal
 
 pub loop-place-preserved : goal.loop-place-preserved

@@ -5,7 +5,7 @@ use Rattle.mi_base.specs.Prefixes.{all_below}
 use Rattle.mi_board.specs.Boards.{BoardState}
 use Rattle.mi_key.specs.Clusters.{cluster_of}
 use Rattle.mi_tree.specs.Cells.{leaf_of}
-use Rattle.mi_plain.specs.Plain.{grid_for}
+use Rattle.mi_tree.specs.Placing.{grid_under}
 use Rattle.mi_plain.proofs.PlacingLemmas.{found_fits, found_prefix, made_kept}
 use Rattle.mi_plain.proofs.plain.Plain.entry.Goals as goal
 
@@ -30,7 +30,7 @@ make-requires-clause-distance c = omega (arith, c.key_distance-distance.ensures.
 pub returns-clause-kept : goal.returns-clause-kept
 returns-clause-kept c =
     let s = c.args.self.now in
-    let g = grid_for s.settings in
+    let g = grid_under s.settings in
     let v = c.args.vector.now in
     let id = c.args.id in
     let birth = c.end-birth.result.updates + 1 in

@@ -18,7 +18,10 @@ use Rattle.mi_key.specs.Ranges.{is_within}
 use Rattle.mi_nearest.specs.declared.order.Rank.{Rank}
 use Rattle.mi_nearest.specs.Nearing.{TakesNearest}
 use Rattle.mi_nearest.specs.Order.{IsRank, leaves_at, rank_cmp}
-use Rattle.mi_nearest.proofs.WalkLemmas.{StopsAt, all_later, all_walked, few_done, next_at, stops_later, sum_next}
+use Rattle.mi_key.specs.Shown.{offerings, within}
+use Rattle.mi_nearest.specs.Walking.{HasNearest, StopsAt}
+use Rattle.mi_nearest.proofs.ScanLemmas.{cells_below, goes_on, has_nearest, ranked_here, stops_here, walk_step}
+use Rattle.mi_nearest.proofs.WalkLemmas.{all_later, all_walked, few_done, next_at, stops_later, sum_next}
 use Rattle.mi_rules.specs.Spans.{is_near}
 use Rattle.mi_tree.specs.declared.outcomes.Leaf.{Leaf}
 use Rattle.mi_tree.specs.Catalog.{CatalogState}
@@ -26,11 +29,11 @@ use Rattle.mi_tree.specs.Legal.{cells_of}
 use Rattle.mi_rules.specs.Passing.{kth_distance, reached_objects}
 use Rattle.mi_plain.specs.Answering.{Answers}
 use Rattle.mi_legal.specs.Work.{WorksNearest}
-use Rattle.mi_plain.specs.Opening.{AreComparable, offerings, entries_in_span}
+use Rattle.mi_plain.specs.Opening.{AreComparable, all_shown}
 use Rattle.mi_plain.specs.Plain.{IsKept, object_in}
-use Rattle.mi_plain.proofs.NearestLemmas.{cells_below, goes_on, nearest_answered, ranked_here, stops_here, walk_step}
-use Rattle.mi_plain.proofs.OpenedLemmas.{few_cells, leaf_fits}
-use Rattle.mi_plain.proofs.OpeningLemmas.{are_comparable, measured_by}
+use Rattle.mi_plain.proofs.QueryLemmas.{nearest_answered}
+use Rattle.mi_plain.proofs.ShownLemmas.{are_comparable, measured_by, shows_live}
+use Rattle.mi_tree.proofs.LimitLemmas.{few_cells, leaf_fits}
 use Rattle.mi_plain.proofs.plain.Plain.nearest.Given.{Over}
 use Rattle.mi_plain.proofs.plain.Plain.nearest.Goals as goal
 use Rattle.mi_plain.proofs.plain.Plain.nearest.Goals.{else-loop-rank-test, then-loop-rank-test+then-stops_at}
@@ -146,9 +149,9 @@ loop-rank-preserved g c =
     let Read : List ℕ → Option ℕ → ℕ → Type 0 = λ ds w l. IfSome leaf.hull (λ hull. (key : ℕ) → is_within span key ≡ is_near ds w l leaf.prefix hull (parts_of key)) in
     let read : Read (distances (space_of k) query) worst k.levels =
     subst (λ (ds : List ℕ). Read ds worst k.levels) dq (subst (λ (w : Option ℕ). Read c.measure-dists.result.items w k.levels) worst_is (subst (Read c.measure-dists.result.items c.worst.result) levels c.in-Some.ensures.some)) in
-    let takes = subst (λ (m : MetricSpace). TakesNearest m query work c.loop-rank.steps (offerings (entries_in_span span es)) c.offer_nearest.new.work c.offer_nearest.new.steps) c.requires.space c.in-Ok-offer_nearest.ensures in
+    let takes = subst (λ (m : MetricSpace). TakesNearest m query work c.loop-rank.steps (offerings (within span (all_shown es))) c.offer_nearest.new.work c.offer_nearest.new.steps) c.requires.space c.in-Ok-offer_nearest.ensures in
     let whole : items ≡ done ++ r ∷ found.0 = parts ∙ ap (λ (xs : List Rank). done ++ xs) found.1 in
-    let step = walk_step k c.end-at.ensures.limits s.log c.end-at.ensures.legal query c.requires.fits metric es kept same c.args.count c.requires.some items done found.0 r ranked whole leaf at work c.offer_nearest.new.work
+    let step = walk_step k c.end-at.ensures.limits s.log c.end-at.ensures.legal query c.requires.fits metric (all_shown es) (shows_live k c.end-at.ensures.limits s.log es kept same) c.args.count c.requires.some items done found.0 r ranked whole leaf at work c.offer_nearest.new.work
     c.loop-rank.steps c.offer_nearest.new.steps span count_is c.loop-rank.invariant.walked next read takes in
     let one = sum_next cells (λ (l : Leaf). 1) done r leaf at in
     let held = sum_next cells (λ (l : Leaf). l.count) done r leaf at in
@@ -217,12 +220,13 @@ both g c =
     let metric : IsMetric (metric_space k) = subst IsMetric c.requires.space (g.met.M.Metric.laws c.args.metric.now) in
     let rows = c.loop-rank.work.rows in
     let held = sum_by (λ (l : Leaf). l.count) (leaves_at cells done) in
-    let got : (op : ℕ) → Answers k s.log 0 op (Nearest c.args.count query) (reply.Nearest c.end-at.result rows c.loop-rank.opened) s.log × (held ≤ reached_objects (space_of k) k.levels s.log query (kth_distance c.args.count rows)) =
-    λ op. nearest_answered k c.end-at.ensures.limits s.log c.end-at.ensures.legal query c.requires.fits metric es kept same c.args.count items done rest rows ranked parts c.loop-rank.invariant.walked (stopped g c) op
-    c.end-at.result c.loop-rank.opened held c.end-at.ensures.end c.loop-rank.invariant.counted (omega arith) in (
-      λ op. subst (λ (y : Reply). Answers k s.log 0 op (Nearest c.args.count query) y s.log) (sym c.finish.ensures) (got op).0,
+    let got : HasNearest k s.log query c.args.count rows c.loop-rank.opened held =
+    has_nearest k c.end-at.ensures.limits s.log c.end-at.ensures.legal query c.requires.fits metric (all_shown es) (shows_live k c.end-at.ensures.limits s.log es kept same) c.args.count items done rest rows ranked parts
+    c.loop-rank.invariant.walked (stopped g c) c.loop-rank.opened held c.loop-rank.invariant.counted (omega arith) in (
+      λ op. subst (λ (y : Reply). Answers k s.log 0 op (Nearest c.args.count query) y s.log) (sym c.finish.ensures)
+          (nearest_answered k s.log op query c.args.count c.end-at.result rows c.loop-rank.opened held c.end-at.ensures.end got),
       subst (λ (y : Reply). WorksNearest k s.log c.args.count query c.args.steps.now y c.loop-rank.steps) (sym c.finish.ensures)
-          (omega (arith, (got 0).1, c.loop-rank.invariant.ticks, c.measure-dists.ensures.steps, ap length pivots)),
+          (omega (arith, got.few, c.loop-rank.invariant.ticks, c.measure-dists.ensures.steps, ap length pivots)),
     )
 
 pub returns-clause-answers : goal.returns-clause-answers

@@ -4,8 +4,8 @@ use Rattle.mi_tree.specs.declared.outcomes.Leaf.{Leaf}
 use Rattle.mi_tree.specs.Legal.{cells_of}
 use Rattle.mi_nearest.specs.declared.order.Rank.{Rank}
 use Rattle.mi_nearest.specs.Order.{leaves_at}
-use Rattle.mi_nearest.proofs.WalkLemmas.{Walked}
-use Rattle.mi_plain.proofs.NearestLemmas.{rows_in}
+use Rattle.mi_nearest.specs.Walking.{KeepsFirst, rows_in}
+use Rattle.mi_plain.specs.Opening.{all_shown}
 use Rattle.mi_plain.proofs.plain.Plain.nearest.Given as goal
 
 -- the leaves so far were opened and counted, and the rows are the first ones of theirs
@@ -17,7 +17,7 @@ invariant-loop-rank g l =
       rest : List Rank;
       parts : l.rank-items ≡ done ++ rest;
       place : length done ≡ l.rank-index;
-      walked : Walked l.count cells (rows_in l.self.settings l.query l.self-inside.entries.entries) done l.work.rows;
+      walked : KeepsFirst l.count cells (rows_in l.self.settings l.query (all_shown l.self-inside.entries.entries)) done l.work.rows;
       same_dists : l.work.dists ≡ l.initial.work.dists;
       same_count : l.work.count ≡ l.initial.work.count;
       counted : l.opened ≡ sum_by (λ (leaf : Leaf). 1) (leaves_at cells done);

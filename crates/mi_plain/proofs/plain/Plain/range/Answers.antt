@@ -1,7 +1,7 @@
-use Rattle.std.proofs.Common.{◌≡◌, ◌∙◌, ◌≤◌, sym, ap, subst, arith, length, List, ℕ, IsTrue, Some}
+use Rattle.std.proofs.Common.{◌≡◌, ◌∙◌, ◌≤◌, sym, ap, subst, arith, length, List, ℕ, ℤ, IsTrue, Some}
 use Rattle.std.specs.Prelude.{count_by, map, slice_get}
 use Rattle.std.specs.List.{AllByRecursion}
-use Rattle.std.proofs.lemmas.List.{take_all}
+use Rattle.std.proofs.lemmas.List.{length-map, take_all}
 use Rattle.mi_base.specs.declared.records.Op.TheVariants.{Range}
 use Rattle.mi_base.specs.declared.records.Reply.{Reply}
 use Rattle.mi_base.specs.Space.{IsMetric, MetricSpace}
@@ -18,11 +18,14 @@ use Rattle.mi_tree.specs.Legal.{cells_of}
 use Rattle.mi_rules.specs.Passing.{opened_count, passes}
 use Rattle.mi_plain.specs.Answering.{Answers}
 use Rattle.mi_legal.specs.Work.{Works}
-use Rattle.mi_plain.specs.Opening.{AreComparable}
+use Rattle.mi_plain.specs.Opening.{AreComparable, all_shown}
 use Rattle.mi_plain.specs.Plain.{IsKept, object_in}
-use Rattle.mi_plain.proofs.OpenedLemmas.{counted_more, few_cells, leaf_fits}
-use Rattle.mi_plain.proofs.OpeningLemmas.{are_comparable, measured_by, opened_passed, opened_taken, taken_all, taken_distances, taken_rows, taken_steps}
-use Rattle.mi_plain.proofs.RangeLemmas.{range_answered}
+use Rattle.mi_plain.proofs.QueryLemmas.{all_taken, leaf_passed, leaf_taken, range_answered}
+use Rattle.mi_plain.proofs.ShownLemmas.{are_comparable, measured_by, shows_live}
+use Rattle.mi_range.specs.Opening.{IsFresh}
+use Rattle.mi_range.proofs.ScanLemmas.{has_scan}
+use Rattle.mi_tree.proofs.LimitLemmas.{few_cells, leaf_fits}
+use Rattle.mi_tree.proofs.SumLemmas.{counted_more}
 use Rattle.mi_plain.proofs.plain.Plain.range.Given.{Over}
 use Rattle.mi_plain.proofs.plain.Plain.range.Goals as goal
 use Rattle.mi_plain.proofs.plain.Plain.range.Goals.{then-passes+in-Ok, else-passes}
@@ -94,7 +97,7 @@ loop-place-preserved g c =
           let step = rw w.if-passes.true at one in
           record {
             takes = rw (w.work-is, w.steps-is)
-                (opened_taken m query c.new-work.result c.loop-place.work w.offer_span.new.work c.measure-dists.new.steps c.loop-place.steps w.offer_span.new.steps dq c.args.radius c.settings.inside.levels es cells c.loop-place.place leaf
+                (leaf_taken m query c.new-work.result c.loop-place.work w.offer_span.new.work c.measure-dists.new.steps c.loop-place.steps w.offer_span.new.steps dq c.args.radius c.settings.inside.levels (all_shown es) cells c.loop-place.place leaf
                 w.span-span.result here (sym c.passes.ensures ∙ w.if-passes.true) w.span-span.ensures c.loop-place.invariant.takes w.in-Ok.ensures);
             counted = omega (arith, step, so_far, w.opened-is);
             few = omega (arith, counted, w.opened-is);
@@ -103,7 +106,7 @@ loop-place-preserved g c =
           let step = rw w.if-passes.false at one in
           record {
             takes = rw (w.work-is, w.steps-is)
-                (opened_passed m query c.new-work.result c.loop-place.work c.measure-dists.new.steps c.loop-place.steps dq c.args.radius c.settings.inside.levels es cells c.loop-place.place leaf
+                (leaf_passed m query c.new-work.result c.loop-place.work c.measure-dists.new.steps c.loop-place.steps dq c.args.radius c.settings.inside.levels (all_shown es) cells c.loop-place.place leaf
                 here (sym c.passes.ensures ∙ w.if-passes.false) c.loop-place.invariant.takes);
             counted = omega (arith, step, so_far, w.opened-is);
             few = omega (arith, counted, w.opened-is);
@@ -131,19 +134,22 @@ both g c =
     measured_by k _ c.self.inside.pivots query c.measure-dists.result.items c.measure-dists.ensures.distances c.requires.space pivots in
     let leaves = ap (λ (x : CatalogState). x.leaves) c.catalog-catalog.ensures ∙ ap (λ (x : BoardState). cells_of x.settings x.log) c.self.view_is in
     let whole : length cells ≤ c.loop-place.place = omega (arith, c.loop-place-test.false, c.len-place-end.ensures, ap length leaves) in
-    let taken = taken_all k s.log query radius es M c.measure-dists.result.items c.settings.inside.levels c.loop-place.place c.new-work.result c.loop-place.work c.measure-dists.new.steps c.loop-place.steps c.requires.space dq levels whole c.loop-place.invariant.takes in
-    let first_dists = c.new-work.ensures.dists ∙ dq in
+    let xs = all_shown es in
+    let taken = all_taken k s.log query radius xs M c.measure-dists.result.items c.settings.inside.levels c.loop-place.place c.new-work.result c.loop-place.work c.measure-dists.new.steps c.loop-place.steps c.requires.space dq levels whole c.loop-place.invariant.takes in
     let begun : c.new-work.result.distances ≡ length k.pivots = c.new-work.ensures.distances ∙ c.measure-dists.ensures.count ∙ ap length pivots in
+    let fresh : IsFresh (distances (space_of k) query) radius c.new-work.result = record {
+      dists_are = c.new-work.ensures.dists ∙ dq;
+      radius_is = c.new-work.ensures.radius;
+      rows_are = c.new-work.ensures.rows;
+      distances_are = begun ∙ sym (length-map k.pivots (λ (p : List ℤ). (metric_space k).d query p));
+    } in
     let metric : IsMetric (metric_space k) = subst IsMetric c.requires.space (g.met.M.Metric.laws c.args.metric.now) in
-    let rows = taken_rows k limits s.log legal query radius es kept same c.new-work.result c.loop-place.work c.measure-dists.new.steps c.loop-place.steps first_dists c.new-work.ensures.radius taken metric c.requires.fits c.new-work.ensures.rows in
-    let work = taken_distances k limits s.log legal query radius es kept same c.new-work.result c.loop-place.work c.measure-dists.new.steps c.loop-place.steps first_dists c.new-work.ensures.radius taken begun in
+    let scan = has_scan k limits s.log legal query radius xs (shows_live k limits s.log es kept same) metric c.requires.fits c.new-work.result c.loop-place.work c.measure-dists.new.steps c.loop-place.steps fresh taken in
     let opened_are : c.loop-place.opened ≡ opened_count (space_of k) k.levels s.log query radius =
-    c.loop-place.invariant.counted ∙ ap (λ (ls : List Leaf). count_by (passes c.measure-dists.result.items radius) ls) (take_all c.loop-place.place cells whole) ∙ ap (λ (ds : List ℕ). count_by (passes ds radius) cells) dq in
-    let ticks = taken_steps k limits s.log legal query radius es kept same c.new-work.result c.loop-place.work c.measure-dists.new.steps c.loop-place.steps first_dists c.new-work.ensures.radius taken in (
+    c.loop-place.invariant.counted ∙ ap (λ (ls : List Leaf). count_by (passes c.measure-dists.result.items radius) ls) (take_all c.loop-place.place cells whole) ∙ ap (λ (ds : List ℕ). count_by (passes ds radius) cells) dq in (
       λ op. subst (λ (y : Reply). Answers k s.log 0 op (Range radius query) y s.log) (sym c.finish.ensures)
-          (range_answered k s.log limits legal es kept same op query radius c.end-at.result c.loop-place.work.rows c.loop-place.opened c.loop-place.work.distances
-          c.end-at.ensures.end rows opened_are work),
-      subst (λ (y : Reply). Works c.args.steps.now y c.loop-place.steps) (sym c.finish.ensures) (omega (arith, work, ticks, c.measure-dists.ensures.steps, ap length pivots)),
+          (range_answered k s.log op query radius c.end-at.result c.loop-place.work c.measure-dists.new.steps c.loop-place.steps c.loop-place.opened c.end-at.ensures.end scan opened_are),
+      subst (λ (y : Reply). Works c.args.steps.now y c.loop-place.steps) (sym c.finish.ensures) (omega (arith, scan.distances_are, scan.ticks, c.measure-dists.ensures.steps, ap length pivots)),
     )
 
 pub returns-clause-answers : goal.returns-clause-answers

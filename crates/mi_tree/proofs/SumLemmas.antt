@@ -1,8 +1,11 @@
 -- Sums over lists, and how often a test is passed.
-use Rattle.std.proofs.Common.{◌≡◌, ℕ, ◌+◌, List, [], ◌∷◌, Bool, true, false, cond, ◌&&◌, map, refl, sym, ap, ◌∙◌, arith, zero-add}
+use Rattle.std.proofs.Common.{◌≡◌, ℕ, ◌+◌, ◌<◌, List, [], ◌∷◌, ◌++◌, length, take, get_or, Some, Bool, true, false, cond, ◌&&◌, map, refl, sym, ap, ◌∙◌, arith, zero-add}
+use Rattle.std.specs.Prelude.{count_by, slice_get}
 use Rattle.std.specs.List.{AllByRecursion, filter, list_all, sum_by}
 use Rattle.std.proofs.lemmas.Bool.{and_parts, false≢true}
-use Rattle.std.proofs.lemmas.List.Sums.{sum_by-cons}
+use Rattle.std.proofs.lemmas.List.{take_more}
+use Rattle.std.proofs.lemmas.List.Sums.{count_by_more_no, count_by_more_yes, sum_by-cons}
+use Rattle.std.proofs.lemmas.Option.{slice_get_within, slice_get-get_or}
 
 -- a number for each of a list that passes a test
 abbrev pub weigh : {X : Type 0} → (X → Bool) → ℕ → List X → ℕ
@@ -83,3 +86,23 @@ all_passed g u t (x ∷ xs) h =
       | true ↦ λ e k. let parts = and_parts (u (g x)) (list_all u (filter t (map g xs))) k in (λ p. parts.0, all_passed g u t xs parts.1)
       | false ↦ λ e k. (λ p. absurd (false≢true (sym e ∙ p)), all_passed g u t xs k)
     ]) refl h
+
+-- one more of a list passes a test, or not
+pub counted_more : {X : Type 0} (p : X → Bool) (xs : List X) (i : ℕ) (x : X) → slice_get xs i ≡ Some x → (b : Bool) → p x ≡ b → count_by p (take (i + 1) xs) ≡ count_by p (take i xs) + cond b 1 0
+counted_more p xs i x at b is =
+    let within : i < length xs = slice_get_within xs i x at in
+    let found : Some (get_or xs i x) ≡ Some x = sym (slice_get-get_or xs i x within) ∙ at in
+    let same : get_or xs i x ≡ x = cc in
+    let P : Bool → Type 0 = λ t. p x ≡ t → count_by p (take (i + 1) xs) ≡ count_by p (take i xs) + cond t 1 0 in
+    (elim b as P [
+      | true ↦ λ e. count_by_more_yes p xs i x within (ap p same ∙ e)
+      | false ↦ λ e. omega (arith, count_by_more_no p xs i x within (ap p same ∙ e))
+    ]) is
+
+-- one more of a list
+pub taken_more : {X : Type 0} (xs : List X) (i : ℕ) (x : X) → slice_get xs i ≡ Some x → take (i + 1) xs ≡ take i xs ++ x ∷ []
+taken_more xs i x at =
+    let within : i < length xs = slice_get_within xs i x at in
+    let found : Some (get_or xs i x) ≡ Some x = sym (slice_get-get_or xs i x within) ∙ at in
+    let same : get_or xs i x ≡ x = cc in
+    take_more xs i x within ∙ ap (λ y. take i xs ++ y ∷ []) same

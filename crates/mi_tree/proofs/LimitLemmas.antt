@@ -1,4 +1,4 @@
--- How many leaves there are, and how many of them a query opens.
+-- Bounds that the limits of the settings give: how long a legal log is, and how many leaves there are.
 use Rattle.std.proofs.Common.{◌≡◌, ℕ, suc, ◌+◌, ◌*◌, ◌<◌, ◌≤◌, List, [], ◌∷◌, ◌++◌, length, take, get_or, Bool, true, false, cond, not, ◌&&◌, nat_eq, nat_lt, refl, sym, ap, ◌∙◌, subst, arith, length-append}
 use Rattle.std.specs.Prelude.{slice_get, Some, count_by}
 use Rattle.std.specs.List.{AllByRecursion, filter, flat_map, fold, range_with_len}
@@ -11,22 +11,24 @@ use Rattle.std.proofs.lemmas.List.FromFn.{length-range_with_len}
 use Rattle.std.proofs.lemmas.Nat.{mul-le}
 use Rattle.mi_base.specs.declared.records.LogEvent.{LogEvent}
 use Rattle.mi_base.specs.declared.records.LogEvent.TheVariants.{Update as Made, Split}
-use Rattle.mi_base.specs.Configuration.{Configuration, IsWithinLimits}
+use Rattle.mi_base.specs.Configuration.{Configuration, IsWithinLimits, space_of}
 use Rattle.mi_base.specs.Prefixes.{has}
 use Rattle.mi_base.proofs.LiveLemmas.{length_filter}
 use Rattle.mi_tree.specs.declared.outcomes.Leaf.{Leaf}
-use Rattle.mi_tree.specs.Cells.{children, same_cell, split_cell, leaves_after, first_leaves, leaves}
+use Rattle.mi_tree.specs.Cells.{IsGrid, children, same_cell, split_cell, leaves_after, first_leaves, leaves}
 use Rattle.mi_tree.specs.Counting.{population, leaf_with}
 use Rattle.mi_tree.specs.Legal.{LegalLog, cells_of}
+use Rattle.mi_tree.specs.Placing.{grid_under}
 use Rattle.mi_tree.specs.Order.{before, in_order}
 use Rattle.std.proofs.lemmas.List.Elements.{recursion_from_All}
 use Rattle.mi_tree.proofs.FitLemmas.{Fits, leaves_fit}
-use Rattle.mi_tree.proofs.ListLemmas.{all_map}
+use Rattle.mi_tree.proofs.ListLemmas.{all_get, all_map}
 use Rattle.mi_tree.proofs.LeafLemmas.{same_cell_is}
-use Rattle.mi_tree.proofs.LegalLemmas.{grid, all_may}
+use Rattle.mi_tree.proofs.LegalLemmas.{all_may}
 use Rattle.mi_tree.proofs.OrderLemmas.{StandInOrder, order_from_test, split_keeps_order, first_leaves_in_order}
-use Rattle.mi_nearest.proofs.WalkLemmas.{all_at}
-use Rattle.mi_board.proofs.BoardLemmas.{is_grid, log_short}
+use Rattle.mi_tree.proofs.CatalogLemmas.{depth_is}
+use Rattle.mi_tree.proofs.GridLemmas.{space_is_grid}
+use Rattle.mi_tree.proofs.SplitsLemmas.{few_splits}
 
 -- nothing comes before itself
 never_before : (p : List ℕ) → before p p ≡ false
@@ -96,43 +98,32 @@ first_few n =
     elim (nat_eq n 0) as P [ true ↦ omega arith | false ↦ omega (arith, few_children n []) ]
 
 module _ (c : Configuration) (limits : IsWithinLimits c) (log : List LogEvent) (legal : LegalLog c log) where
+  pub is_grid : IsGrid (grid_under c)
+  is_grid = space_is_grid (space_of c) c.levels limits.few_pivots limits.levels
+
+  -- a log is short
+  pub log_short : length log ≤ 1400000
+  log_short =
+      let most : c.updates * c.levels ≤ 200000 * 6 = mul-le c.updates c.levels 200000 6 limits.updates.1 (depth_is (length c.pivots) c.levels limits.levels).0 in
+      omega (arith, few_splits c log is_grid legal, legal.few, limits.updates.1, most)
+
   -- the leaves are few enough to be counted in 32 bits
   pub few_cells : length (cells_of c log) < 4294967295
   few_cells =
-      let g = grid c in
+      let g = grid_under c in
       let n = length c.pivots in
       let all = few_from n (first_leaves n) log (first_leaves_in_order n) in
-      let most : n * length log ≤ 32 * 1400000 = mul-le n (length log) 32 1400000 limits.few_pivots (log_short c limits log legal) in
+      let most : n * length log ≤ 32 * 1400000 = mul-le n (length log) 32 1400000 limits.few_pivots log_short in
       omega (arith, all, most, first_few n, limits.few_pivots, length-map (leaves g log) (leaf_with g (population g log)))
 
   -- the prefix of each is of at most so many of the pivots
   pub cells_fit : AllByRecursion (λ (l : Leaf). Fits (length c.pivots) c.levels l.prefix) (cells_of c log)
   cells_fit =
-      let g = grid c in
+      let g = grid_under c in
       all_map (leaf_with g (population g log)) (λ l. Fits (length c.pivots) c.levels l.prefix) (leaves g log)
-      (recursion_from_All (Fits g.pivots g.levels) (leaves g log) (leaves_fit g (is_grid c limits log legal) log (all_may c log legal)))
+      (recursion_from_All (Fits g.pivots g.levels) (leaves g log) (leaves_fit g is_grid log (all_may c log legal)))
 
 -- the leaf at a place fits
 pub leaf_fits : (c : Configuration) → IsWithinLimits c → (log : List LogEvent) → LegalLog c log → (ls : List Leaf) → ls ≡ cells_of c log → (i : ℕ) (leaf : Leaf) → slice_get ls i ≡ Some leaf → Fits (length c.pivots) c.levels leaf.prefix
 leaf_fits c limits log legal ls same i leaf at =
-    all_at (λ (l : Leaf). Fits (length c.pivots) c.levels l.prefix) ls i leaf (subst (AllByRecursion (λ (l : Leaf). Fits (length c.pivots) c.levels l.prefix)) (sym same) (cells_fit c limits log legal)) at
-
--- one more of a list passes a test, or not
-pub counted_more : {X : Type 0} (p : X → Bool) (xs : List X) (i : ℕ) (x : X) → slice_get xs i ≡ Some x → (b : Bool) → p x ≡ b → count_by p (take (i + 1) xs) ≡ count_by p (take i xs) + cond b 1 0
-counted_more p xs i x at b is =
-    let within : i < length xs = slice_get_within xs i x at in
-    let found : Some (get_or xs i x) ≡ Some x = sym (slice_get-get_or xs i x within) ∙ at in
-    let same : get_or xs i x ≡ x = cc in
-    let P : Bool → Type 0 = λ t. p x ≡ t → count_by p (take (i + 1) xs) ≡ count_by p (take i xs) + cond t 1 0 in
-    (elim b as P [
-      | true ↦ λ e. count_by_more_yes p xs i x within (ap p same ∙ e)
-      | false ↦ λ e. omega (arith, count_by_more_no p xs i x within (ap p same ∙ e))
-    ]) is
-
--- one more of a list
-pub taken_more : {X : Type 0} (xs : List X) (i : ℕ) (x : X) → slice_get xs i ≡ Some x → take (i + 1) xs ≡ take i xs ++ x ∷ []
-taken_more xs i x at =
-    let within : i < length xs = slice_get_within xs i x at in
-    let found : Some (get_or xs i x) ≡ Some x = sym (slice_get-get_or xs i x within) ∙ at in
-    let same : get_or xs i x ≡ x = cc in
-    take_more xs i x within ∙ ap (λ y. take i xs ++ y ∷ []) same
+    all_get (λ (l : Leaf). Fits (length c.pivots) c.levels l.prefix) ls i leaf (subst (AllByRecursion (λ (l : Leaf). Fits (length c.pivots) c.levels l.prefix)) (sym same) (cells_fit c limits log legal)) at

@@ -1,9 +1,8 @@
--- Keys of entries.
+-- Prefixes of permutations.
 use Rattle.std.proofs.Common.{◌≡◌, ℕ, zero, suc, ◌<◌, ◌^◌, List, [], ◌∷◌, length, take, ◌&&◌, IsTrue, nat_le, nat_lt, refl, subst, arith}
 use Rattle.std.proofs.lemmas.Bool.{and_from, and_parts}
 use Rattle.mi_base.specs.Permutations.{is_permutation}
 use Rattle.mi_base.specs.Prefixes.{all_below, are_different}
-use Rattle.mi_key.specs.Keys.{parts_of}
 
 -- a front of small numbers
 pub all_below-take : (n d : ℕ) (xs : List ℕ) → IsTrue (all_below n xs) → IsTrue (all_below n (take d xs))
@@ -19,13 +18,3 @@ all_below-permutation n d perm long h =
     let parts = and_parts (nat_le (length perm) 32) (all_below (length perm) perm && are_different perm) h in
     let low = (and_parts (all_below (length perm) perm) (are_different perm) parts.1).0 in
     all_below-take n d perm (subst (λ (m : ℕ). IsTrue (all_below m perm)) long low)
-
--- the identifier in a key fits its bits
-pub id_fits : (key : ℕ) → (parts_of key).id < 2 ^ 40
-unfolding parts_of
-id_fits key = omega arith
-
--- and so does the distance
-pub distance_fits : (key : ℕ) → (parts_of key).distance < 2 ^ 27
-unfolding parts_of
-distance_fits key = omega arith
