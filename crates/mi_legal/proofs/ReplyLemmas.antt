@@ -1,7 +1,7 @@
 -- Replies in logs that go on. What is right in a log is right in one that goes on, and a reply's position reaches as far there.
-use Rattle.std.proofs.Common.{◌≡◌, ℕ, zero, suc, ◌+◌, ◌-◌, ◌<◌, ◌≤◌, List, [], ◌∷◌, ◌++◌, length, take, Some, refl, sym, ap, ◌∙◌, arith, length-append, append-nil, append_assoc}
+use Rattle.std.proofs.Common.{◌≡◌, ℕ, zero, suc, ◌+◌, ◌-◌, ◌<◌, ◌≤◌, List, [], ◌∷◌, ◌++◌, length, take, Some, refl, sym, ap, ◌∙◌, arith, length-append, append-nil}
 use Rattle.std.specs.Prelude.{ℤ, slice_get}
-use Rattle.std.proofs.lemmas.List.{length-map, nil_from_length, take-append-le}
+use Rattle.std.proofs.lemmas.List.{nil_from_length, take-append-le}
 use Rattle.std.proofs.lemmas.Option.{get_or_from_slice_get, slice_get_read, slice_get_within}
 use Rattle.std.proofs.Math.ListN.{get_or-append}
 use Rattle.mi_base.specs.declared.records.LogEvent.{LogEvent}
@@ -13,7 +13,7 @@ use Rattle.mi_base.specs.declared.records.Reply.TheVariants as reply
 use Rattle.mi_base.specs.declared.records.Position.{Position}
 use Rattle.mi_base.specs.declared.records.Row.{Row}
 use Rattle.mi_base.specs.Configuration.{Configuration, metric_space, space_of}
-use Rattle.mi_base.specs.History.{Entered, entered, updates_of, is_live, events_at, at_position, IsPosition, range_scan, nearest_scan}
+use Rattle.mi_base.specs.History.{Entered, entered, updates_of, is_live, range_scan, nearest_scan}
 use Rattle.mi_base.proofs.HistoryLemmas.{entered-append, updates_of-append}
 use Rattle.mi_tree.proofs.GrowingLemmas.{at_grows, length-updates_of, position_grows}
 use Rattle.mi_legal.specs.Legal.{events_to, reach}

@@ -1,0 +1,4 @@
+pub mod Deleting
+pub mod Endings
+pub mod Inserting
+pub mod Stepping
