@@ -36,8 +36,6 @@ pub record Begun (op : SplitOp) (leaf : Leaf) : Type 0 where
   pub leaf_is : op.leaf ≡ leaf
   pub state_is : op.state ≡ Looking
 
--- what a state needs of the actor
-
 -- where a split is given up for want of pages, it was told that all are allotted
 abbrev pub IsWhy : Reason → View → Type 0
 IsWhy (NoPages limit) v = (limit ≡ v.settings.pages) × IsTrue v.told
@@ -56,11 +54,12 @@ pub record MayUndo (v : View) : Type 0 where
   pub some : 0 < v.copied
   pub few : v.copied ≤ MAX_UPDATES
 
--- a post is under way, and ready
+-- a post is under way, and it is ready
 abbrev pub PostIsReady : Option Post → View → Type 0
 PostIsReady None v = ⊥
 PostIsReady (Some post) v = posting.Ready post v
 
+-- What a state needs of the actor: a page at which its descent may stand, and what its call needs. No section follows the end.
 abbrev pub StateIsReady : SplitState → ℕ → Option Post → View → Type 0
 StateIsReady Looking root post v = MayGather v × (v.splitting ≡ false)
 StateIsReady (Gathering page) root post v = MayGather v × (copied_in v ≡ 0) × Stands v page 0 (gather_key v) × IsRoot v root
@@ -79,8 +78,6 @@ pub record Ready (op : SplitOp) (v : View) : Type 0 where
   pub claimed : v.leaf ≡ Some op.leaf.prefix
   pub state : StateIsReady op.state op.root op.post v
 
--- the section that each state makes, and where its answer leads
-
 -- the next copy begins at the root, or the split is published where all are made
 abbrev pub copy_next : ℕ → View → SplitState
 copy_next root v = cond (nat_lt (copied_in v) (gathered_in v)) (Copying root) Publishing
@@ -89,6 +86,7 @@ copy_next root v = cond (nat_lt (copied_in v) (gathered_in v)) (Copying root) Pu
 abbrev pub undo_next : Reason → ℕ → View → SplitState
 undo_next why root v = cond (nat_lt 0 (copied_in v)) (Undoing root why) (GivingUp why)
 
+-- where the answer of a gather leads: to the page that it names; the whole leaf is gathered where it names none
 abbrev pub after_gather : Result Visit NoMemory → ℕ → View → SplitState
 after_gather (Ok (visit.Down p)) root w = Gathering p
 after_gather (Ok (visit.Right p)) root w = Gathering p
@@ -96,19 +94,20 @@ after_gather (Ok (visit.Read (Some p))) root w = Gathering p
 after_gather (Ok (visit.Read None)) root w = copy_next root w
 after_gather (Err e) root w = GivingUp Memory
 
--- a full page is halved for the copy, which needs a fresh page
+-- where the answer of a copy leads: a full page has to be halved first, for which a fresh page is wanted
 abbrev pub after_copy : Put → ℕ → ℕ → View → SplitState
 after_copy (put.Down p) page root w = Copying p
 after_copy (put.Right p) page root w = Copying p
 after_copy put.PageFull page root w = cond (is_some w.fresh) (Halving page) (Allotting page)
 after_copy put.Done page root w = copy_next root w
 
+-- a page was allotted for a copy, or the copies are taken back for want of it
 abbrev pub after_allot : Result (Unit {0}) AllotRefusal → ℕ → ℕ → View → SplitState
 after_allot (Ok _) page root w = Halving page
 after_allot (Err (allot.PagesFull limit)) page root w = undo_next (NoPages limit) root w
 after_allot (Err allot.Memory) page root w = undo_next Memory root w
 
--- the route of the upper half is posted before the copy goes on
+-- the page of a copy was halved, and the route of its upper half is posted before the copy goes on; or it wasn't full any more
 abbrev pub AfterHalf : Parted → ℕ → SplitOp → Type 0
 AfterHalf (part.Parted key child) page new = (new.state ≡ Posting page) × (post : Post) × (new.post ≡ Some post) × posting.Begun post 1 key child
 AfterHalf part.Roomy page new = new.state ≡ Copying page
@@ -118,10 +117,12 @@ abbrev pub AfterPost : PostTurn → ℕ → Post → SplitOp → SplitOp → Typ
 AfterPost post_turn.More page post old new = (new.state ≡ Posting page) × (new.post ≡ Some post) × (new.root ≡ old.root)
 AfterPost answer page post old new = (new.state ≡ Copying page) × (new.root ≡ unwrap_or post.root old.root)
 
+-- a refused publish takes the copies back
 abbrev pub after_publish : Result Position NoMemory → ℕ → View → SplitState
 after_publish (Ok position) root w = Published
 after_publish (Err e) root w = undo_next Memory root w
 
+-- where the answer of an uncopy leads; no page is too full for it
 abbrev pub after_uncopy : Put → Reason → ℕ → View → SplitState
 after_uncopy (put.Down p) why root w = Undoing p why
 after_uncopy (put.Right p) why root w = Undoing p why
@@ -133,28 +134,32 @@ abbrev pub for_pages : Reason → Bool
 for_pages (NoPages limit) = true
 for_pages Memory = false
 
+-- the section that each state makes of the actor, and where its answer leads: to a state and a root for later descents
 abbrev pub Makes : SplitState → SplitOp → View → SplitOp → View → Type 0
 Makes Looking old v new w = (look : Look) × Looks v w look × (new.state ≡ Gathering look.root) × (new.root ≡ look.root)
-Makes (Gathering page) old v new w = (answer : Result Visit NoMemory) × Gathers v w page answer × (new.state ≡ after_gather answer old.root w) × (new.root ≡ old.root)
-Makes (Copying page) old v new w = (answer : Put) × CopiesIn v w page answer × (new.state ≡ after_copy answer page old.root w) × (new.root ≡ old.root)
+Makes (Gathering page) old v new w =
+    (answer : Result Visit NoMemory) × Gathers v w page answer × (new.state ≡ after_gather answer old.root w) × (new.root ≡ old.root)
+Makes (Copying page) old v new w =
+    (answer : Put) × CopiesIn v w page answer × (new.state ≡ after_copy answer page old.root w) × (new.root ≡ old.root)
 Makes (Allotting page) old v new w =
     (answer : Result (Unit {0}) AllotRefusal) × Allots v w answer × (new.state ≡ after_allot answer page old.root w) × (new.root ≡ old.root)
 Makes (Halving page) old v new w = (answer : Parted) × PartsPage v w page answer × AfterHalf answer page new × (new.root ≡ old.root)
 Makes (Posting page) old v new w =
     (before : Post) × (after : Post) × (answer : PostTurn) × (old.post ≡ Some before) × posting.Turned before v answer after w × AfterPost answer page after old new
-Makes Publishing old v new w = (answer : Result Position NoMemory) × Publishes v w answer × (new.state ≡ after_publish answer old.root w) × (new.root ≡ old.root)
-Makes (Undoing page why) old v new w = (answer : Put) × Uncopies v w page answer × (new.state ≡ after_uncopy answer why old.root w) × (new.root ≡ old.root)
+Makes Publishing old v new w =
+    (answer : Result Position NoMemory) × Publishes v w answer × (new.state ≡ after_publish answer old.root w) × (new.root ≡ old.root)
+Makes (Undoing page why) old v new w =
+    (answer : Put) × Uncopies v w page answer × (new.state ≡ after_uncopy answer why old.root w) × (new.root ≡ old.root)
 Makes (GivingUp why) old v new w = GivesUp v w (for_pages why) × (new.state ≡ GivenUp why)
 Makes Published old v new w = ⊥
 Makes (GivenUp why) old v new w = ⊥
 
--- what is kept from the first section to the last
-
--- the routes that are still to be posted
+-- the routes that are still to be posted: those of a post
 abbrev pub posts_of : Option Post → ℕ → Bool
 posts_of None p = false
 posts_of (Some post) p = posting.pending post p
 
+-- and none where no post is under way
 abbrev pub pending_in : SplitState → Option Post → ℕ → Bool
 pending_in (Posting page) post p = posts_of post p
 pending_in state post p = false
@@ -164,43 +169,45 @@ abbrev pub EarlyUnless : Reason → Bool → View → Type 0
 EarlyUnless (NoPages limit) early v = v.early ≡ early
 EarlyUnless Memory early v = Unit {0}
 
+-- as it stood before the first section, until copies are taken back
 abbrev pub EarlyIs : SplitState → Bool → View → Type 0
 EarlyIs (Undoing page why) early v = EarlyUnless why early v
 EarlyIs (GivingUp why) early v = EarlyUnless why early v
 EarlyIs (GivenUp why) early v = EarlyUnless why early v
 EarlyIs state early v = v.early ≡ early
 
--- No more routes are owed than at the first section and those to be posted, unless pages or memory were wanting.
+-- What is kept from the first section to the last: the flag, and that no routes are owed but those before and those to be posted, unless pages
+-- or memory were wanting.
 pub record Since (owed : ℕ → Bool) (early : Bool) (op : SplitOp) (v : View) : Type 0 where
   pub owes : OwesOnly owed (pending_in op.state op.post) v
   pub early_is : EarlyIs op.state early v
 
--- how many sections are left, at most, while the budget stays
-
--- of a post under way
+-- how many sections are left of a post under way, at most, while the budget stays
 abbrev pub post_left : Option Post → View → ℕ
 post_left None v = 0
 post_left (Some post) v = posting.left post v
 
--- of one copy, and of taking one back
+-- and of one copy
 unfoldable pub per_copy : ℕ
 per_copy = 3 * longest + 8
 
+-- and of taking one back
 unfoldable pub per_undo : ℕ
 per_undo = longest + 2
 
--- of taking all copies back, and then of the end
+-- and of taking back all copies, and of what follows
 abbrev pub undo_most : ℕ
 undo_most = MAX_UPDATES * per_undo + 3
 
--- of the copies after the next one
+-- and of the copies after the next one
 abbrev pub copies_left : View → ℕ
 copies_left v = (length v.copies - (v.copied + 1)) * per_copy
 
--- of all copies, and then of the end
+-- and of all copies, and of what follows
 abbrev pub copy_most : ℕ
 copy_most = undo_most + MAX_UPDATES * per_copy + 12
 
+-- and of the split in each state: its descent, the copies, and what taking them back would need
 abbrev pub left_in : SplitState → Option Post → View → ℕ
 left_in Looking post v = copy_most + longest + 1
 left_in (Gathering page) post v = copy_most + descent v page
@@ -214,9 +221,11 @@ left_in (GivingUp why) post v = 1
 left_in Published post v = 0
 left_in (GivenUp why) post v = 0
 
+-- and of the split
 abbrev pub left : SplitOp → View → ℕ
 left op v = left_in op.state op.post v
 
+-- how many sections a split has while the budget stays, at most
 unfoldable pub split_most : ℕ
 split_most = copy_most + longest + post_most + 2
 

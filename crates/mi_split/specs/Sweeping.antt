@@ -42,12 +42,13 @@ Makes Looking v new w = (look : Look) × Looks v w look × (new ≡ Sweeping loo
 Makes (Sweeping page) v new w = (answer : Visit) × Sweeps v w page answer × (new ≡ after_sweep answer)
 Makes Over v new w = ⊥
 
--- how many sections are left, at most
+-- how many sections are left in each state, at most
 abbrev pub left_in : SweepState → View → ℕ
 left_in Looking v = longest + 1
 left_in (Sweeping page) v = descent v page
 left_in Over v = 0
 
+-- and of the sweep
 abbrev pub left : SweepOp → View → ℕ
 left op v = left_in op.state v
 

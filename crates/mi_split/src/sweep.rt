@@ -70,22 +70,26 @@ impl SweepOp {
         ensures section { W.section world.old world.new }
     {
         match world.sweep(page) {
-            Visit::Down { page } => {
-                self.state = SweepState::Sweeping { page };
-                WalkTurn::More
-            }
-            Visit::Right { page } => {
-                self.state = SweepState::Sweeping { page };
-                WalkTurn::More
-            }
-            Visit::Read { next: Some(page) } => {
-                self.state = SweepState::Sweeping { page };
-                WalkTurn::More
-            }
-            Visit::Read { next: None } => {
-                self.state = SweepState::Over;
-                WalkTurn::Done
-            }
+            Visit::Down { page } => self.go_on(page),
+            Visit::Right { page } => self.go_on(page),
+            Visit::Read { next: Some(page) } => self.go_on(page),
+            Visit::Read { next: None } => self.end(),
         }
+    }
+
+    fn go_on(&mut self, page: u32) -> WalkTurn
+        ensures state { self.new ≡ record self.old { state = SweepState.Sweeping page } }
+        ensures turn { result ≡ WalkTurn.More }
+    {
+        self.state = SweepState::Sweeping { page };
+        WalkTurn::More
+    }
+
+    fn end(&mut self) -> WalkTurn
+        ensures state { self.new ≡ record self.old { state = SweepState.Over } }
+        ensures turn { result ≡ WalkTurn.Done }
+    {
+        self.state = SweepState::Over;
+        WalkTurn::Done
     }
 }
