@@ -1,10 +1,11 @@
 -- What a change of one actor's state leaves of the claims and the reservations.
-use Rattle.std.proofs.Common.{◌≡◌, ℕ, suc, zero, ◌+◌, ◌<◌, ◌≤◌, List, [], ◌∷◌, length, get_or, Bool, true, false, cond, refl, sym, ap, ◌∙◌, subst, arith, Option, Some, None}
+use Rattle.std.proofs.Common.{◌≡◌, ℕ, suc, zero, ◌+◌, ◌<◌, ◌≤◌, List, [], ◌∷◌, ◌++◌, length, get_or, Bool, true, false, cond, refl, sym, ap, ◌∙◌, subst, arith, Option, Some, None}
 use Rattle.std.specs.Prelude.{slice_set, count_by}
 use Rattle.std.proofs.lemmas.Bool.{false≢true, or_parts}
+use Rattle.std.proofs.lemmas.List.Folds.{list_any-append}
 use Rattle.std.proofs.lemmas.List.Sums.{sum_by-cons}
 use Rattle.mi_board.specs.declared.actors.ActorState.{ActorState}
-use Rattle.mi_board.specs.Actors.{actor_at, change, with_claim, without_claim, with_reserved, is_claim, is_claimed}
+use Rattle.mi_board.specs.Actors.{actor_at, change, idle, with_claim, without_claim, with_reserved, is_claim, is_claimed}
 use Rattle.mi_board.specs.Kept.{ClaimStands, ClaimsStand}
 use Rattle.mi_tree.specs.declared.outcomes.Leaf.{Leaf}
 use Rattle.mi_tree.specs.Cells.{same_cell}
@@ -77,11 +78,25 @@ stands_after : (f : ActorState → ActorState) → ((q : List ℕ) (a : ActorSta
 stands_after f keep ls i states None h = tt
 stands_after f keep ls i states (Some p) h = (h.0, free_after f p (keep p) i states h.1)
 
--- reserving keeps the claims
-pub claims_reserving : (b : Bool) (ls : List Leaf) (i : ℕ) (states : List ActorState) → ClaimsStand ls states → ClaimsStand ls (change (with_reserved b) i states)
-claims_reserving b ls i [] h = tt
-claims_reserving b ls zero (a ∷ states) h = h
-claims_reserving b ls (suc i) (a ∷ states) h = (stands_after (with_reserved b) (λ q x k. k) ls i states a.claim h.0, claims_reserving b ls i states h.1)
+-- what changes no claim keeps the claims
+pub claims_beside : (f : ActorState → ActorState) → ((a : ActorState) → (f a).claim ≡ a.claim) → (ls : List Leaf) (i : ℕ) (states : List ActorState) → ClaimsStand ls states → ClaimsStand ls (change f i states)
+claims_beside f same ls i [] h = tt
+claims_beside f same ls zero (a ∷ states) h = (subst (ClaimStands ls states) (sym (same a)) h.0, h.1)
+claims_beside f same ls (suc i) (a ∷ states) h = (stands_after f (λ q x k. ap (is_claim q) (same x) ∙ k) ls i states a.claim h.0, claims_beside f same ls i states h.1)
+
+-- an actor that was just made claims nothing
+stands_more : (ls : List Leaf) (states : List ActorState) (o : Option (List ℕ)) → ClaimStands ls states o → ClaimStands ls (states ++ idle ∷ []) o
+stands_more ls states None h = tt
+stands_more ls states (Some p) h = (h.0, list_any-append (λ (a : ActorState). is_claim p a.claim) states (idle ∷ []) ∙ rw h.1 refl)
+
+pub claims_more : (ls : List Leaf) (states : List ActorState) → ClaimsStand ls states → ClaimsStand ls (states ++ idle ∷ [])
+claims_more ls [] h = (tt, tt)
+claims_more ls (a ∷ states) h = (stands_more ls states a.claim h.0, claims_more ls states h.1)
+
+-- and has reserved nothing
+pub reserved_more : (states : List ActorState) → reserved (states ++ idle ∷ []) ≡ reserved states
+reserved_more [] = refl
+reserved_more (a ∷ states) = omega (arith, reserved-cons a states, reserved-cons a (states ++ idle ∷ []), reserved_more states)
 
 -- a release keeps the others
 pub claims_released : (ls : List Leaf) (i : ℕ) (states : List ActorState) → ClaimsStand ls states → ClaimsStand ls (change without_claim i states)

@@ -1,8 +1,8 @@
 -- What holds of every board holds after each event.
-use Rattle.std.proofs.Common.{◌^◌, ◌≡◌, ℕ, ℤ, ◌*◌, ◌<◌, ◌≤◌, List, [], ◌∷◌, ◌++◌, map, length, true, false, IsTrue, refl, sym, ap, ◌∙◌, subst, arith, not, ◌&&◌}
+use Rattle.std.proofs.Common.{◌^◌, ◌≡◌, ℕ, ℤ, ◌*◌, ◌<◌, ◌≤◌, List, [], ◌∷◌, ◌++◌, map, length, true, false, IsTrue, refl, sym, ap, ◌∙◌, subst, arith, Bool, cond, not, ◌&&◌, ◌||◌}
 use Rattle.std.specs.Prelude.{◌==◌}
 use Rattle.std.proofs.lemmas.Nat.{mul-le}
-use Rattle.std.proofs.lemmas.Bool.{eq-eqb}
+use Rattle.std.proofs.lemmas.Bool.{and_parts, eq-eqb}
 use Rattle.std.proofs.lemmas.List.Elements.{All-from_recursion}
 use Rattle.std.specs.Prelude.{All}
 use Rattle.std.specs.List.{filter, flat_map, list_any}
@@ -19,7 +19,7 @@ use Rattle.mi_base.proofs.LiveLemmas.{few_live, length_filter}
 use Rattle.mi_base.proofs.SortingLemmas.{same_length}
 use Rattle.mi_tree.specs.declared.outcomes.Leaf.{Leaf}
 use Rattle.mi_tree.specs.declared.counts.Placed.{Placed}
-use Rattle.mi_tree.specs.Cells.{IsGrid, leaves}
+use Rattle.mi_tree.specs.Cells.{IsGrid, leaves, same_cell}
 use Rattle.mi_tree.specs.Counting.{with_removed, split_leaf, belongs, placed_object, population, leaf_with, has_leaf, is_crowded, is_overfull}
 use Rattle.mi_tree.specs.Legal.{MayFollow, IsUncrowded, LegalLog, cells_of}
 use Rattle.mi_tree.proofs.CatLemmas.{cat-insert, cat-delete, cat-split, held_live}
@@ -29,7 +29,8 @@ use Rattle.mi_tree.proofs.ListLemmas.{all_any, all_map}
 use Rattle.mi_tree.proofs.GridLemmas.{space_is_grid}
 use Rattle.mi_tree.proofs.LegalLemmas.{grid, wanted, all_may, legal_more, uncrowded_from, updates_of_split}
 use Rattle.mi_tree.proofs.SplitsLemmas.{few_splits}
-use Rattle.mi_board.proofs.CrowdLemmas.{added_fits, removed_fits, parted_fits, wanted_few, empty_fits}
+use Rattle.mi_tree.proofs.LeafLemmas.{same_cell_is}
+use Rattle.mi_board.proofs.CrowdLemmas.{or_nothing, added_fits, removed_fits, parted_fits, wanted_few, empty_fits}
 
 module _ (c : Configuration) (limits : IsWithinLimits c) (log : List LogEvent) (legal : LegalLog c log) where
   pub is_grid : IsGrid (grid c)
@@ -104,3 +105,26 @@ module _ (c : Configuration) (limits : IsWithinLimits c) (log : List LogEvent) (
 
     pub split_has : has_leaf p (cells_of c log) ≡ true
     split_has = cat_has (grid c) log p ∙ (wanted c log p may).0
+
+-- some element passes a test that it passes beside another
+pub any_first : {X : Type 0} (p q : X → Bool) (xs : List X) → list_any (λ x. p x && q x) xs ≡ true → list_any p xs ≡ true
+any_first p q [] h = h
+any_first {X = X} p q (x ∷ xs) h =
+    let P : Bool → Type 0 = λ b. (b && q x || list_any (λ y. p y && q y) xs) ≡ true → (b || list_any p xs) ≡ true in
+    (elim (p x) as P [ true ↦ λ _. refl | false ↦ λ k. any_first p q xs k ]) h
+
+-- no object of an identifier is among the others
+none_other : (id : ℕ) (q : Object → Bool) (os : List Object) → list_any (λ o. (o.id == id) && q o) (filter (λ o. not (o.id == id)) os) ≡ false
+none_other id q [] = refl
+none_other id q (o ∷ os) =
+    let P : Bool → Type 0 = λ b. (o.id == id) ≡ b → list_any (λ (x : Object). (x.id == id) && q x) (cond (not b) (o ∷ filter (λ (x : Object). not (x.id == id)) os) (filter (λ (x : Object). not (x.id == id)) os)) ≡ false in
+    (elim (o.id == id) as P [ true ↦ λ e. none_other id q os | false ↦ λ e. rw e (none_other id q os) ]) refl
+
+-- the one object of an identifier has the permutation that one of them has
+pub one_perm : (perm : List ℤ → List ℕ) (id : ℕ) (p : List ℕ) (os : List Object) (one : TheOne id os) → list_any (λ o. (o.id == id) && same_cell p (perm o.vector)) os ≡ true → p ≡ perm one.object.vector
+one_perm perm id p os one h =
+    let q : Object → Bool = λ x. same_cell p (perm x.vector) in
+    let test : Object → Bool = λ x. (x.id == id) && q x in
+    let whole : (test one.object || list_any test (filter (λ (x : Object). not (x.id == id)) os)) ≡ true = sym (same_any test os _ one.whole) ∙ h in
+    let here : (test one.object || false) ≡ true = ap (λ b. test one.object || b) (sym (none_other id q os)) ∙ whole in
+    same_cell_is p (perm one.object.vector) (and_parts (one.object.id == id) (q one.object) (sym (or_nothing (test one.object)) ∙ here)).1

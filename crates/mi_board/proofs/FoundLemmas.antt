@@ -1,10 +1,14 @@
 -- The leaf that was found.
-use Rattle.std.proofs.Common.{◌≡◌, ℕ, suc, zero, ◌+◌, take, drop, length, arith, add-one, not, List, [], ◌∷◌, Bool, true, false, IsTrue, cond, ◌||◌, refl, sym, ap, ◌∙◌, subst, Option, Some, None}
+use Rattle.std.proofs.Common.{◌≡◌, ℕ, suc, zero, ◌+◌, take, drop, length, arith, add-one, not, List, [], ◌∷◌, Bool, true, false, IsTrue, cond, ◌&&◌, ◌||◌, refl, sym, ap, ◌∙◌, subst, Option, Some, None}
+use Rattle.std.specs.Prelude.{is_some}
 use Rattle.std.specs.List.{find, slice_get}
 use Rattle.std.proofs.lemmas.Bool.{and_parts, false≢true, or_right}
 use Rattle.mi_base.specs.Permutations.{begins}
 use Rattle.mi_board.specs.Actors.{is_claim, is_claimed, claims_leaf_of}
-use Rattle.mi_board.specs.Boards.{BoardState, is_free}
+use Rattle.mi_board.specs.Boards.{BoardState, is_open, is_passed}
+use Rattle.mi_board.specs.Floors.{earliest_in}
+use Rattle.mi_tree.specs.Births.{was_split}
+use Rattle.mi_base.specs.declared.records.LogEvent.{LogEvent}
 use Rattle.mi_tree.specs.declared.outcomes.Leaf.{Leaf}
 use Rattle.mi_tree.specs.Cells.{same_cell}
 use Rattle.mi_tree.specs.Counting.{leaves_beginning, has_leaf, is_wanted}
@@ -74,12 +78,48 @@ not_so : (b : Bool) → not b ≡ true → b ≡ false
 not_so true h = absurd (false≢true h)
 not_so false h = refl
 
--- and nobody claims it
-pub find_free : (s : BoardState) (ls : List Leaf) (x : Leaf) → find (is_free s) ls ≡ Some x → is_claimed x.prefix s.actors ≡ false
-find_free s ls x h =
-    not_so (is_claimed x.prefix s.actors) (and_parts (is_wanted s.settings.levels s.settings.cell x) (not (is_claimed x.prefix s.actors)) (find_passes (is_free s) ls x h)).1
+-- a test of three parts, and its second
+second_part : (a b d : Bool) → (a && (not b && d)) ≡ true → b ≡ false
+second_part true true d h = absurd (false≢true h)
+second_part true false d h = refl
+second_part false b d h = absurd (false≢true h)
 
--- a list that doesn't lose its first element has none
-pub no_first : (ps : List (List ℕ)) → ps ≡ drop 1 ps → ps ≡ []
-no_first [] h = refl
-no_first (p ∷ ps) h = let size : suc (length ps) ≡ length ps = ap length h in absurd (omega (arith, size))
+-- and nobody claims it
+pub find_free : (s : BoardState) (ls : List Leaf) (x : Leaf) → find (is_open s) ls ≡ Some x → is_claimed x.prefix s.actors ≡ false
+find_free s ls x h = second_part (is_wanted s.settings.levels s.settings.cell x) (is_claimed x.prefix s.actors) (not (is_passed x.prefix s)) (find_passes (is_open s) ls x h)
+
+-- an open leaf is to be split
+pub find_wanted : (s : BoardState) (ls : List Leaf) (x : Leaf) → find (is_open s) ls ≡ Some x → is_wanted s.settings.levels s.settings.cell x ≡ true
+find_wanted s ls x h = (and_parts (is_wanted s.settings.levels s.settings.cell x) _ (find_passes (is_open s) ls x h)).0
+
+-- the leaf that is swept next is the first that was retired
+pub next_swept : (log : List LogEvent) (ps : List (List ℕ)) (p : List ℕ) → earliest_in log ps ≡ Some p → ps ≡ p ∷ drop 1 ps
+next_swept log [] p e = cc
+next_swept log (q ∷ qs) p e =
+    let P : Bool → Type 0 = λ b. cond b (Some q) None ≡ Some p → q ∷ qs ≡ p ∷ qs in
+    (elim (was_split q log) as P [ true ↦ λ e. cc | false ↦ λ e. cc ]) e
+
+-- a leaf that isn't free, or that is passed over, isn't open
+pub not_free : (a b d : Bool) → (a && b) ≡ false → (a && (b && d)) ≡ false
+not_free true true d h = absurd (false≢true (sym h))
+not_free true false d h = refl
+not_free false b d h = refl
+
+pub not_open : (a b d : Bool) → d ≡ true → (a && (b && not d)) ≡ false
+not_open true true d h = ap not h
+not_open true false d h = refl
+not_open false b d h = refl
+
+pub is_free_open : (a b d : Bool) → (a && b) ≡ true → d ≡ false → (a && (b && not d)) ≡ true
+is_free_open true true d h k = ap not k
+is_free_open true false d h k = absurd (false≢true h)
+is_free_open false b d h k = absurd (false≢true h)
+
+-- whether there is one, by the first that was retired
+pub sweep_is : (log : List LogEvent) (ps : List (List ℕ)) (p : List ℕ) → slice_get ps 0 ≡ Some p → was_split p log ≡ is_some (earliest_in log ps)
+sweep_is log [] p at = cc
+sweep_is log (q ∷ qs) p at =
+    let same : q ≡ p = cc in
+    let P : Bool → Type 0 = λ b. b ≡ is_some (cond b (Some q) None) in
+    let here : was_split q log ≡ is_some (cond (was_split q log) (Some q) None) = elim (was_split q log) as P [ true ↦ refl | false ↦ refl ] in
+    subst (λ (x : List ℕ). was_split x log ≡ is_some (cond (was_split q log) (Some q) None)) same here

@@ -1,6 +1,8 @@
 pub mod ActorLemmas
 pub mod BoardLemmas
 pub mod CrowdLemmas
+pub mod FloorLemmas
 pub mod FoundLemmas
+pub mod MarkLemmas
 pub mod StepLemmas
 pub mod ConditionLemmas

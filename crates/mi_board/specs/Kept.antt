@@ -1,10 +1,13 @@
 -- What holds of every board.
-use Rattle.std.specs.Prelude.{count_by, ◌≡◌, ◌≤◌, ◌+◌, ℕ, List, [], ◌∷◌, length, true, false, Some, Option, None}
+use Rattle.std.specs.Prelude.{count_by, ◌≡◌, ◌≤◌, ◌+◌, ℕ, List, [], ◌∷◌, Bool, length, true, false, Some, Option, None}
+use Rattle.std.specs.Arc.{arc_value}
 use Rattle.mi_base.specs.declared.records.LogEvent.{LogEvent}
 use Rattle.mi_base.specs.Configuration.{Configuration, IsWithinLimits}
-use Rattle.mi_base.specs.History.{updates_of}
+use Rattle.mi_base.specs.History.{IsPosition, at_position, updates_of}
 use Rattle.mi_board.specs.declared.actors.ActorState.{ActorState}
+use Rattle.mi_board.specs.declared.shared.KeptCatalog.{KeptCatalog}
 use Rattle.mi_board.specs.Actors.{is_claimed}
+use Rattle.mi_board.specs.Boards.{cells_in}
 use Rattle.mi_tree.specs.declared.outcomes.Leaf.{Leaf}
 use Rattle.mi_tree.specs.Catalog.{CatalogState}
 use Rattle.mi_tree.specs.Counting.{has_leaf}
@@ -20,10 +23,6 @@ abbrev pub ClaimsStand : List Leaf → List ActorState → Type 0
 ClaimsStand leaves [] = Unit {0}
 ClaimsStand leaves (a ∷ actors) = ClaimStands leaves actors a.claim × ClaimsStand leaves actors
 
--- the cells of a log under settings
-abbrev pub cells_in : Configuration → List LogEvent → CatalogState
-cells_in c log = record { pivots = length c.pivots; levels = c.levels; leaves = cells_of c log }
-
 -- the log is legal, the catalog has its cells, the count is that of its updates, the claims stand, and there is room for what was reserved
 pub record IsBoard (c : Configuration) (log : List LogEvent) (catalog : CatalogState) (updates : ℕ) (actors : List ActorState) (room : ℕ) : Type 0 where
   pub limits : IsWithinLimits c
@@ -33,3 +32,15 @@ pub record IsBoard (c : Configuration) (log : List LogEvent) (catalog : CatalogS
   pub few : length actors ≤ 4294967295
   pub claims : ClaimsStand (cells_of c log) actors
   pub space : length log + count_by (λ a. a.reserved) actors ≤ room
+
+-- the catalog that is kept for pins is that of its position
+abbrev pub IsShared : Configuration → List LogEvent → Option KeptCatalog → Type 0
+IsShared c log None = Unit {0}
+IsShared c log (Some k) = IsPosition log k.at × (arc_value k.catalog ≡ cells_in c (at_position log k.at))
+
+-- beside that, each leaf has a mark that says whether it is passed over, no more pages are allotted than may be, and the kept catalog stands
+pub record HoldsBoard (c : Configuration) (log : List LogEvent) (catalog : CatalogState) (updates : ℕ) (actors : List ActorState) (room : ℕ) (marks : List Bool) (allotted : ℕ) (kept : Option KeptCatalog) : Type 0 where
+  pub board : IsBoard c log catalog updates actors room
+  pub each : length marks ≡ length catalog.leaves
+  pub pages : allotted ≤ c.pages
+  pub shared : IsShared c log kept

@@ -1,3 +1,5 @@
 pub mod Actors
 pub mod Boards
+pub mod Floors
 pub mod Kept
+pub mod Marks

@@ -1,25 +1,37 @@
 //! The board.
-ghost use Rattle.std.specs.Prelude.{◌≡◌, ◌≢◌, ◌<◌, ◌≤◌, None, Some, count_by, replicate, length, true, false, IfOk, IfNone, IfSome};
+ghost use Rattle.std.specs.Prelude.{◌≡◌, ◌≢◌, ◌<◌, ◌≤◌, ◌+◌, ◌==◌, None, Some, count_by, replicate, length, IsTrue, true, false, IfOk, IfNone, IfSome, OnErr, OnOk, OnSome, drop, not, is_some, flat_map, slice_get, ◌&&◌, ◌++◌, [], ◌∷◌};
+ghost use Rattle.std.specs.Vec.{vec_capacity};
+ghost use Rattle.std.specs.Arc.{arc_value};
 ghost use Rattle.mi_base.specs.declared.records.Update.TheVariants.{Insert, Delete};
 ghost use Rattle.mi_base.specs.Configuration.{IsWithinLimits};
-ghost use Rattle.mi_base.specs.History.{end_of};
-ghost use Rattle.mi_board.specs.Actors.{actor_at, idle, is_claim, is_claimed, without_claim};
-ghost use Rattle.mi_board.specs.Boards.{ClaimsLeaf, Commits, GivesWork, MayCommit, MayDelete, MayInsert, MayPublish, Publishes, Reserves, crowded_at, first_wanted, is_free, leaf_claimed, look_of, opened_board, with_actor};
-ghost use Rattle.mi_board.specs.Kept.{cells_in};
+ghost use Rattle.mi_base.specs.History.{end_of, events_at};
+ghost use Rattle.mi_board.specs.Actors.{actor_at, gone, idle, is_claim, is_claimed, with_reserved, without_claim, without_pin};
+ghost use Rattle.mi_board.specs.Boards.{AddsActor, Allots, ClaimsLeaf, Commits, GivesWork, Grows, MayCommit, MayDelete, MayInsert, MayPublish, Publishes, Reserves, cells_in, crowded_at, floor_of, given_up, is_kept_at, leaf_claimed, leaves_copied, look_of, next_split, next_sweep, open_count, opened_board, passing, pinned, same_position, with_actor};
+ghost use Rattle.mi_board.specs.Floors.{earlier};
+ghost use Rattle.mi_tree.specs.Births.{is_split_of, was_split};
 ghost use Rattle.mi_tree.specs.Counting.{is_crowded, is_wanted};
 ghost use Rattle.mi_tree.specs.Legal.{LegalLog};
 
-use crate::ActorState;
-use mi_base::{Id, Log, LogEvent, NoMemory, Perm, Position, Prefix, Settings, Update, Vector};
+use crate::{ActorState, KeptCatalog, marks};
+use mi_base::{
+    Id, Log, LogEvent, NoMemory, Perm, Position, Prefix, Settings, Steps, Update, Vector,
+};
 use mi_tree::{
-    Catalog, CommitRefusal, Leaf, LeafClaim, Look, Placed, ReserveRefusal, Work, is_same,
+    AllotRefusal, Catalog, CommitRefusal, Leaf, LeafClaim, Look, Placed, ReserveRefusal, Work,
+    is_same,
 };
 use std::alloc::Global;
 use std::collections::VecDeque;
 use std::marker::Model;
+use std::sync::Arc;
+use std::sync::ledger::Ledger;
 
-/// The log with the cells after it, the leaves that actors claim, who has reserved room in the log, and the leaves that were
-/// split and not yet swept, oldest first. The log is legal after every call.
+/// What a pin gives: where the log and the pages stand, and the cells of that moment.
+pub type Pinned = (Look, Arc<Catalog, Global>);
+
+/// The log with the cells after it, what each actor claims, has reserved and has pinned, the leaves that were split and not yet
+/// swept, oldest first, those that are passed over, the root of the pages and how many are allotted. The log is legal after every
+/// call.
 #[derive(Drop)]
 pub struct Board {
     settings: Settings,
@@ -28,18 +40,38 @@ pub struct Board {
     catalog: Catalog,
     actors: Vec<ActorState>,
     retired: VecDeque<Prefix>,
+    // For each leaf, whether it is passed over: so it is found by a search, and takes no memory.
+    marks: Vec<bool>,
+    root: u32,
+    height: u32,
+    allotted: u32,
+    // The catalog of the latest pin. No commit and no split changes it.
+    kept: Option<KeptCatalog>,
 }
 
 impl Model for Board {
+    ghost use Rattle.std.specs.Prelude.{option_map};
     ghost use Rattle.std.specs.Vec.{vec_capacity};
     ghost use Rattle.mi_board.specs.Boards.{BoardState};
-    ghost use Rattle.mi_board.specs.Kept.{IsBoard};
+    ghost use Rattle.mi_board.specs.Kept.{HoldsBoard};
+    ghost use Rattle.mi_board.specs.Marks.{marked};
+    ghost use Rattle.mi_tree.specs.Catalog.{prefixes_of};
 
     ghost Value = { BoardState };
 
-    ghost view = { λ b. record { settings = b.settings; log = b.events.items; actors = b.actors.items; retired = b.retired.items } };
+    ghost view = { λ b. record {
+      settings = b.settings;
+      log = b.events.items;
+      actors = b.actors.items;
+      retired = b.retired.items;
+      passed_over = marked (prefixes_of b.catalog.leaves) b.marks.items;
+      root = b.root;
+      height = b.height;
+      allotted = b.allotted;
+      kept_at = option_map (λ k. k.at) b.kept;
+    } };
 
-    ghost invariant = { λ b. IsBoard b.settings b.events.items b.catalog b.updates b.actors.items (vec_capacity b.events) };
+    ghost invariant = { λ b. HoldsBoard b.settings b.events.items b.catalog b.updates b.actors.items (vec_capacity b.events) b.marks.items b.allotted b.kept };
 }
 
 impl Board {
@@ -50,18 +82,22 @@ impl Board {
     {
         let mut states = Vec::new(alloc);
         for _ in 0..actors {
-            states.push(ActorState {
-                claim: None,
-                reserved: false,
-            })?;
+            states.push(ActorState::idle())?;
         }
+        let catalog = Catalog::first(alloc, settings.pivots.len() as u32, settings.levels)?;
+        let marks = marks::unmarked(alloc, catalog.len())?;
         Ok(Board {
             settings: settings.copy(alloc)?,
             events: Vec::new(alloc),
             updates: 0,
-            catalog: Catalog::first(alloc, settings.pivots.len() as u32, settings.levels)?,
+            catalog,
             actors: states,
             retired: VecDeque::new(alloc),
+            marks,
+            root: 0,
+            height: 0,
+            allotted: 1,
+            kept: None,
         })
     }
 
@@ -72,7 +108,19 @@ impl Board {
         &self.settings
     }
 
-    /// How many actors the board was opened for. They are numbered from 0.
+    /// One actor more, which holds nothing. Where as many actors were made as there are numbers, memory is wanted too.
+    pub fn add_actor(&mut self) -> Result<u32, NoMemory>
+        ensures { AddsActor self.old result self.new }
+    {
+        let actor = self.actors.len() as u32;
+        if actor == u32::MAX {
+            return Err(NoMemory);
+        }
+        self.actors.push(ActorState::idle())?;
+        Ok(actor)
+    }
+
+    /// How many actors were made. They are numbered from 0.
     pub fn actors(&self) -> usize
         ensures { result ≡ length self.now.actors }
     {
@@ -96,6 +144,14 @@ impl Board {
         self.actors[actor as usize].reserved
     }
 
+    /// The position that the actor has pinned, if it has a pin.
+    pub fn pin_of(&self, actor: u32) -> Option<Position>
+        requires { actor < length self.now.actors }
+        ensures { result ≡ (actor_at self.now.actors actor).pin }
+    {
+        self.actors[actor as usize].pin
+    }
+
     /// The events in order.
     pub fn log(&self) -> &[LogEvent]
         ensures same { result.now ≡ self.now.log }
@@ -112,17 +168,61 @@ impl Board {
         &self.catalog
     }
 
-    /// The end of the log, which is the floor too, and the root of the pages, which is 0 at height 0.
+    /// How many pages are allotted.
+    pub fn allotted(&self) -> u32
+        ensures result { result ≡ self.now.allotted }
+        ensures few { self.now.allotted ≤ self.now.settings.pages }
+    {
+        self.allotted
+    }
+
+    /// The position of the catalog that is kept for pins, if one is.
+    pub fn kept_at(&self) -> Option<Position>
+        ensures { result ≡ self.now.kept_at }
+    {
+        self.kept.as_ref().map(|kept| kept.at)
+    }
+
+    /// The end of the log, the root of the pages, and the floor.
     pub fn look(&self) -> Look
         ensures { result ≡ look_of self.now }
     {
-        let at = self.end();
         Look {
-            at,
-            root: 0,
-            height: 0,
-            floor: at,
+            at: self.end(),
+            root: self.root,
+            height: self.height,
+            floor: self.floor(),
         }
+    }
+
+    /// Pins the end of the log for the actor, which has no pin. Pins of one position share a catalog, which stays as it is whatever
+    /// the board does then.
+    pub fn pin<L: Ledger>(
+        &mut self,
+        alloc: Global,
+        actor: u32,
+        steps: &mut Steps<L>,
+    ) -> Result<Pinned, NoMemory>
+        requires known { actor < length self.old.actors }
+        requires free { (actor_at self.old.actors actor).pin ≡ None }
+        ensures ok { OnOk result (self.new ≡ pinned actor self.old) }
+        ensures err { OnErr result (self.new ≡ self.old) }
+        ensures look { IfOk result (λ p. p.0 ≡ look_of self.new) }
+        ensures cells { IfOk result (λ p. arc_value p.1 ≡ cells_in self.old.settings self.old.log) }
+        ensures ticks { OnOk result (steps.new ≡ steps.old + leaves_copied self.old) }
+    {
+        let catalog = self.share(alloc, steps)?;
+        self.actors[actor as usize].pin = Some(self.end());
+        Ok((self.look(), catalog))
+    }
+
+    /// Ends the actor's pin. It takes no memory.
+    pub fn unpin(&mut self, actor: u32)
+        requires known { actor < length self.old.actors }
+        requires pins { (actor_at self.old.actors actor).pin ≢ None }
+        ensures { self.new ≡ with_actor without_pin actor self.old }
+    {
+        self.actors[actor as usize].pin = None;
     }
 
     /// Takes the room for one update of the actor.
@@ -195,16 +295,13 @@ impl Board {
             id,
             vector: vector.copy(),
         };
-        self.events
-            .push(LogEvent::Update {
-                session: actor,
-                op,
-                update,
-            })
-            .unwrap();
-        self.updates += 1;
-        self.actors[actor as usize].reserved = false;
-        Ok(self.updates)
+        let state = &mut self.actors[actor as usize];
+        let event = LogEvent::Update {
+            session: actor,
+            op,
+            update,
+        };
+        Ok(enter(&mut self.events, &mut self.updates, state, event))
     }
 
     /// Enters the delete of an object that belongs to the leaf which the actor claims. It takes no memory.
@@ -224,16 +321,38 @@ impl Board {
             return Err(CommitRefusal::Full { limit });
         }
         self.catalog.remove(perm);
-        self.events
-            .push(LogEvent::Update {
-                session: actor,
-                op,
-                update: Update::Delete { id },
-            })
-            .unwrap();
-        self.updates += 1;
-        self.actors[actor as usize].reserved = false;
-        Ok(self.updates)
+        let state = &mut self.actors[actor as usize];
+        let event = LogEvent::Update {
+            session: actor,
+            op,
+            update: Update::Delete { id },
+        };
+        Ok(enter(&mut self.events, &mut self.updates, state, event))
+    }
+
+    /// Allots the next page. It takes no memory, and never says that memory was wanted.
+    pub fn allot(&mut self) -> Result<u32, AllotRefusal>
+        ensures { Allots self.old result self.new }
+    {
+        let limit = self.settings.pages;
+        if self.allotted >= limit {
+            return Err(AllotRefusal::PagesFull { limit });
+        }
+        let page = self.allotted;
+        self.allotted += 1;
+        Ok(page)
+    }
+
+    /// Makes this page the root, where the root is one level below this level.
+    pub fn grow(&mut self, level: u32, root: u32) -> bool
+        ensures { Grows self.old level root result self.new }
+    {
+        if level == 0 || level - 1 != self.height {
+            return false;
+        }
+        self.root = root;
+        self.height = level;
+        true
     }
 
     /// Splits the leaf that the actor claims, and ends the claim. The objects are the leaf's live ones.
@@ -252,14 +371,35 @@ impl Board {
         let prefix = claim.copy();
         let room = self.reservations() + 1;
         self.events.reserve(room)?;
-        self.retired.push_back(prefix.copy())?;
-        let Ok(()) = self.catalog.split(alloc, &prefix, objects) else {
-            let _ = self.retired.pop_back();
-            return Err(NoMemory);
-        };
+        self.retired.reserve(1)?;
+        let pivots = pivots_of(&self.settings);
+        marks::split_cell(
+            alloc,
+            pivots,
+            &mut self.catalog,
+            &mut self.marks,
+            &prefix,
+            objects,
+        )?;
+        self.retired.push_back(prefix.copy()).unwrap();
         self.events.push(LogEvent::Split { prefix }).unwrap();
         self.actors[actor as usize].claim = None;
         Ok(self.end())
+    }
+
+    /// Ends the actor's claim, since the leaf can't be split now. For want of pages it is passed over until it is split.
+    pub fn give_up(&mut self, actor: u32, pages: bool)
+        requires known { actor < length self.old.actors }
+        requires claims { (actor_at self.old.actors actor).claim ≢ None }
+        requires pages { IsTrue pages → self.old.allotted ≡ self.old.settings.pages }
+        ensures { self.new ≡ given_up pages actor self.old }
+    {
+        if !pages {
+            self.release_leaf(actor);
+            return;
+        }
+        self.pass_over(actor);
+        self.release_leaf(actor);
     }
 
     /// What the splitter has to do next: it is taken off the list of leaves that were split, or the leaf is claimed for it.
@@ -268,16 +408,31 @@ impl Board {
         requires free { (actor_at self.old.actors actor).claim ≡ None }
         ensures { GivesWork self.old actor result self.new }
     {
-        if let Some(prefix) = self.retired.pop_front() {
+        if let Some(prefix) = self.take_retired() {
             return Work::Sweep { prefix };
         }
-        match self.first_wanted() {
+        match self.next_split() {
             Some(leaf) => {
                 self.actors[actor as usize].claim = Some(leaf.prefix.copy());
                 Work::Split { leaf }
             }
             None => Work::Idle,
         }
+    }
+
+    /// The actor departs; one that has departed stays so.
+    pub fn depart(&mut self, actor: u32)
+        requires { actor < length self.old.actors }
+        ensures { self.new ≡ with_actor gone actor self.old }
+    {
+        self.actors[actor as usize].departed = true;
+    }
+
+    /// How many of the actors haven't departed.
+    pub fn open_actors(&self) -> u32
+        ensures { result ≡ open_count self.now.actors }
+    {
+        self.actors.iter().filter(|state| !state.departed).count() as u32
     }
 
     /// The log alone. It takes no memory.
@@ -302,13 +457,90 @@ impl Board {
         None
     }
 
-    /// The first leaf in order that is to be split and that nobody claims.
-    fn first_wanted(&self) -> Option<Leaf>
-        ensures { result ≡ first_wanted self.now }
+    /// The catalog of the end of the log, to be shared: the one that is kept, where it is of that position, else a new copy, which
+    /// is then kept.
+    fn share<L: Ledger>(
+        &mut self,
+        alloc: Global,
+        steps: &mut Steps<L>,
+    ) -> Result<Arc<Catalog, Global>, NoMemory>
+        ensures ok { OnOk result (self.new ≡ record self.old { kept_at = Some (end_of self.old.log) }) }
+        ensures err { OnErr result (self.new ≡ self.old) }
+        ensures cells { IfOk result (λ catalog. arc_value catalog ≡ cells_in self.old.settings self.old.log) }
+        ensures ticks { OnOk result (steps.new ≡ steps.old + leaves_copied self.old) }
     {
-        for place in 0..self.catalog.len() {
+        if let Some(kept) = self.kept_now() {
+            return Ok(Arc::try_clone(kept)?);
+        }
+        let Ok(catalog) = Arc::new(alloc, self.catalog.copy(alloc, steps)?) else {
+            return Err(NoMemory);
+        };
+        let shared = Arc::try_clone(&catalog)?;
+        let at = self.end();
+        self.kept = Some(KeptCatalog { at, catalog });
+        Ok(shared)
+    }
+
+    /// The catalog that is kept, where it is of the end of the log.
+    fn kept_now(&self) -> Option<&Arc<Catalog, Global>>
+        ensures cells { IfSome result (λ catalog. arc_value catalog.now ≡ cells_in self.now.settings self.now.log) }
+        ensures some { IfSome result (λ _. is_kept_at (end_of self.now.log) self.now.kept_at ≡ true) }
+        ensures none { IfNone result (is_kept_at (end_of self.now.log) self.now.kept_at ≡ false) }
+    {
+        let end = self.end();
+        match &self.kept {
+            Some(kept) if is_same_position(kept.at, end) => Some(&kept.catalog),
+            _ => None,
+        }
+    }
+
+    /// The least pinned position, or the end of the log where nothing is pinned.
+    fn floor(&self) -> Position
+        ensures { result ≡ floor_of self.now }
+    {
+        let mut floor = self.end();
+        let mut place = self.actors.len();
+        while place > 0 {
+            place -= 1;
+            floor = earlier(self.actors[place].pin, floor);
+        }
+        floor
+    }
+
+    /// Takes the leaf that was split first off the retired ones, where the floor has its split.
+    fn take_retired(&mut self) -> Option<Prefix>
+        ensures some { IfSome result (λ prefix. next_sweep self.old ≡ Some prefix) }
+        ensures taken { OnSome result (self.new ≡ record self.old { retired = drop 1 self.old.retired }) }
+        ensures none { IfNone result (next_sweep self.old ≡ None) }
+        ensures same { IfNone result (self.new ≡ self.old) }
+    {
+        if !self.may_sweep() {
+            return None;
+        }
+        self.retired.pop_front()
+    }
+
+    /// A leaf was split, and the floor has the split of the one that was split first.
+    fn may_sweep(&self) -> bool
+        ensures { result ≡ is_some (next_sweep self.now) }
+    {
+        match self.retired.front() {
+            Some(prefix) => {
+                let floor = self.floor();
+                let events = floor.updates as usize + floor.splits as usize;
+                was_split(prefix, &self.events[..events])
+            }
+            None => false,
+        }
+    }
+
+    /// The first leaf in order that is to be split, that nobody claims, and that isn't passed over.
+    fn next_split(&self) -> Option<Leaf>
+        ensures { result ≡ next_split self.now }
+    {
+        for (place, passed_over) in self.marks.iter().enumerate() {
             let leaf = self.catalog.leaf(place);
-            if self.is_free(leaf) {
+            if !*passed_over && self.is_free(leaf) {
                 return Some(leaf.copy());
             }
         }
@@ -317,9 +549,21 @@ impl Board {
 
     /// The leaf is to be split, and nobody claims it.
     fn is_free(&self, leaf: &Leaf) -> bool
-        ensures { result ≡ is_free self.now leaf.now }
+        ensures { result ≡ is_wanted self.now.settings.levels self.now.settings.cell leaf.now && not (is_claimed leaf.now.prefix self.now.actors) }
     {
         is_wanted(&self.settings, leaf) && self.claimant(&leaf.prefix).is_none()
+    }
+
+    /// The leaf that the actor claims is passed over.
+    fn pass_over(&mut self, actor: u32)
+        requires known { actor < length self.old.actors }
+        requires claims { (actor_at self.old.actors actor).claim ≢ None }
+        ensures { self.new ≡ record self.old { passed_over = passing (leaf_claimed self.old actor) self.old } }
+    {
+        if let Some(prefix) = &self.actors[actor as usize].claim {
+            let place = marks::place_of(&self.catalog, prefix);
+            self.marks[place] = true;
+        }
     }
 
     /// How many actors have reserved an update that they haven't committed.
@@ -347,6 +591,13 @@ fn limit_of(settings: &Settings) -> u32
     settings.updates
 }
 
+/// How many pivots there are.
+fn pivots_of(settings: &Settings) -> u8
+    ensures { result ≡ length settings.now.pivots }
+{
+    settings.pivots.len() as u8
+}
+
 /// An insert may not enter the leaf before it is split.
 fn is_crowded(settings: &Settings, leaf: &Leaf) -> bool
     ensures { result ≡ is_crowded settings.now.levels settings.now.cell leaf.now }
@@ -359,4 +610,66 @@ fn is_wanted(settings: &Settings, leaf: &Leaf) -> bool
     ensures { result ≡ is_wanted settings.now.levels settings.now.cell leaf.now }
 {
     leaf.is_wanted(settings.levels, settings.cell)
+}
+
+/// Enters an update that the actor had reserved, and gives its number. It takes no memory.
+fn enter(
+    events: &mut Vec<LogEvent>,
+    updates: &mut u32,
+    state: &mut ActorState,
+    event: LogEvent,
+) -> u32
+    requires room { length events.old.items < vec_capacity events.old }
+    requires few { updates.old < u32.MAX }
+    ensures events { events.new.items ≡ events.old.items ++ event ∷ [] }
+    ensures room { vec_capacity events.old ≤ vec_capacity events.new }
+    ensures updates { updates.new ≡ updates.old + 1 }
+    ensures number { result ≡ updates.old + 1 }
+    ensures state { state.new ≡ with_reserved false state.old }
+{
+    events.push(event).unwrap();
+    *updates += 1;
+    state.reserved = false;
+    *updates
+}
+
+/// The earlier of two positions.
+fn earlier(one: Option<Position>, other: Position) -> Position
+    ensures { result ≡ earlier one other }
+{
+    match one {
+        Some(one) if events_at(one) <= events_at(other) => one,
+        _ => other,
+    }
+}
+
+/// The two positions are one.
+fn is_same_position(one: Position, other: Position) -> bool
+    ensures { result ≡ same_position one other }
+{
+    one.updates == other.updates && one.splits == other.splits
+}
+
+/// How many events the log has up to a position.
+fn events_at(at: Position) -> u64
+    ensures { result ≡ events_at at }
+{
+    u64::from(at.updates) + u64::from(at.splits)
+}
+
+/// The leaf of this prefix was split in these events.
+fn was_split(prefix: &Prefix, events: &[LogEvent]) -> bool
+    ensures { result ≡ was_split prefix.now events.now }
+{
+    events.iter().any(|event| is_split_of(event, prefix))
+}
+
+/// The event is the split of the leaf of this prefix.
+fn is_split_of(event: &LogEvent, prefix: &Prefix) -> bool
+    ensures { result ≡ is_split_of prefix.now event.now }
+{
+    match event {
+        LogEvent::Split { prefix: split } => is_same(prefix, split),
+        LogEvent::Update { .. } => false,
+    }
 }

@@ -1,11 +1,14 @@
-//! What all actors share: the log, the claims of leaves, and the leaves that were split.
+//! What all actors share: the log, the claims of leaves, the pins, the leaves that were split, and the pages that are allotted.
 #![tactic(auto)]
 
 mod actors;
 mod boards;
+mod marks;
+mod shared;
 
 pub use actors::ActorState;
-pub use boards::Board;
+pub use boards::{Board, Pinned};
+pub use shared::KeptCatalog;
 
 #[cfg(test)]
 mod conditions;

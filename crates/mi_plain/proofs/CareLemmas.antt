@@ -11,7 +11,7 @@ use Rattle.mi_base.specs.Permutations.{begins}
 use Rattle.mi_base.proofs.HistoryLemmas.{few_updates}
 use Rattle.mi_board.specs.declared.actors.ActorState.{ActorState}
 use Rattle.mi_board.specs.Actors.{actor_at, change, with_claim, is_claim, is_claimed, without_claim}
-use Rattle.mi_board.specs.Boards.{BoardState, first_wanted, is_free}
+use Rattle.mi_board.specs.Boards.{BoardState, is_open, is_passed, next_split}
 use Rattle.mi_board.proofs.BoardLemmas.{split_legal}
 use Rattle.mi_key.specs.declared.entries.Entry.{Entry}
 use Rattle.mi_plain.specs.Plain.{IsPlain, NoClaims}
@@ -37,16 +37,16 @@ unclaimed (a ∷ b ∷ []) two f s p = rw (no_claim p a.claim f, no_claim p b.cl
 unclaimed (a ∷ b ∷ c ∷ rest) two f s p = absurd (omega (arith, two))
 
 -- a leaf that is found is to be split
-pub found_wanted : (b : BoardState) (ls : List Leaf) (leaf : Leaf) → find (is_free b) ls ≡ Some leaf
+pub found_wanted : (b : BoardState) (ls : List Leaf) (leaf : Leaf) → find (is_open b) ls ≡ Some leaf
     → list_any (λ l. same_cell leaf.prefix l.prefix && is_wanted b.settings.levels b.settings.cell l) ls ≡ true
 found_wanted b [] leaf h = cc
 found_wanted b (l ∷ ls) leaf h =
     let T : Leaf → Bool = λ x. same_cell leaf.prefix x.prefix && is_wanted b.settings.levels b.settings.cell x in
-    let P : Bool → Type 0 = λ t. is_free b l ≡ t → cond t (Some l) (find (is_free b) ls) ≡ Some leaf → (T l || list_any T ls) ≡ true in
-    (elim (is_free b l) as P [
+    let P : Bool → Type 0 = λ t. is_open b l ≡ t → cond t (Some l) (find (is_open b) ls) ≡ Some leaf → (T l || list_any T ls) ≡ true in
+    (elim (is_open b l) as P [
       | true ↦ λ e k.
           let same : l ≡ leaf = cc in
-          let is = (and_parts (is_wanted b.settings.levels b.settings.cell l) (not (is_claimed l.prefix b.actors)) e).0 in
+          let is = (and_parts (is_wanted b.settings.levels b.settings.cell l) (not (is_claimed l.prefix b.actors) && not (is_passed l.prefix b)) e).0 in
           let here : same_cell leaf.prefix l.prefix ≡ true = subst (λ (x : Leaf). same_cell x.prefix l.prefix ≡ true) same (same_self l.prefix) in
           rw (here, is) refl
       | false ↦ λ e k. or_right (T l) (list_any T ls) (found_wanted b ls leaf k)
@@ -68,16 +68,18 @@ beginning_wanted levels cell perm (l ∷ ls) leaf h w =
       | false ↦ λ k. or_right (T l) (list_any T ls) (beginning_wanted levels cell perm ls leaf k w)
     ]) h
 
--- where no free leaf is to be split and all are free, none is to be split
-pub none_wanted : (b : BoardState) → ((p : List ℕ) → is_claimed p b.actors ≡ false) → (ls : List Leaf) → find (is_free b) ls ≡ None → list_any (is_wanted b.settings.levels b.settings.cell) ls ≡ false
-none_wanted b free [] h = refl
-none_wanted b free (l ∷ ls) h =
+-- where no open leaf is to be split, nobody claims one and none is passed over, none is to be split
+pub none_wanted : (b : BoardState) → ((p : List ℕ) → is_claimed p b.actors ≡ false) → ((p : List ℕ) → is_passed p b ≡ false) → (ls : List Leaf) → find (is_open b) ls ≡ None → list_any (is_wanted b.settings.levels b.settings.cell) ls ≡ false
+none_wanted b free whole [] h = refl
+none_wanted b free whole (l ∷ ls) h =
     let W = is_wanted b.settings.levels b.settings.cell l in
     let C = is_claimed l.prefix b.actors in
-    let P : Bool → Type 0 = λ w. cond (w && not C) (Some l) (find (is_free b) ls) ≡ None → (w || list_any (is_wanted b.settings.levels b.settings.cell) ls) ≡ false in
+    let D = is_passed l.prefix b in
+    let P : Bool → Type 0 = λ w. cond (w && (not C && not D)) (Some l) (find (is_open b) ls) ≡ None → (w || list_any (is_wanted b.settings.levels b.settings.cell) ls) ≡ false in
     (elim W as P [
-      | true ↦ λ k. let k2 : cond (true && not false) (Some l) (find (is_free b) ls) ≡ None = subst (λ (x : Bool). cond (true && not x) (Some l) (find (is_free b) ls) ≡ None) (free l.prefix) k in cc
-      | false ↦ λ k. none_wanted b free ls k
+      | true ↦ λ k. let k2 : cond (not false && not D) (Some l) (find (is_open b) ls) ≡ None = subst (λ (x : Bool). cond (not x && not D) (Some l) (find (is_open b) ls) ≡ None) (free l.prefix) k in
+          let k3 : cond (not false) (Some l) (find (is_open b) ls) ≡ None = subst (λ (x : Bool). cond (not x) (Some l) (find (is_open b) ls) ≡ None) (whole l.prefix) k2 in cc
+      | false ↦ λ k. none_wanted b free whole ls k
     ]) h
 
 -- a split leaves less to do
@@ -115,8 +117,8 @@ reserved_after p (a ∷ actors) = refl
 
 module _ (b : BoardState) (pivots : List (List ℤ)) (entries : List (ℕ × Entry)) (is : IsPlain b pivots entries) where
   -- nothing to do
-  pub settled : NoClaims b → first_wanted b ≡ None → Settled b.settings b.log
-  settled idle none = none_wanted b (unclaimed b.actors is.two idle.0 idle.1) (cells_of b.settings b.log) none
+  pub settled : NoClaims b → next_split b ≡ None → Settled b.settings b.log
+  settled idle none = none_wanted b (unclaimed b.actors is.two idle.0 idle.1) (λ p. ap (list_any (same_cell p)) is.whole) (cells_of b.settings b.log) none
 
   -- a crowded leaf may be split
   pub crowded_may : (perm : List ℕ) (leaf : Leaf) → leaves_beginning perm (cells_of b.settings b.log) ≡ leaf ∷ [] → is_crowded b.settings.levels b.settings.cell leaf ≡ true → MayFollow b.settings b.log (Split leaf.prefix)

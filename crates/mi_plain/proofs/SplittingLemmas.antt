@@ -1,6 +1,6 @@
 -- The list after a split of a leaf.
-use Rattle.std.proofs.Common.{◌≡◌, ℕ, ℤ, ◌+◌, ◌<◌, ◌≤◌, ◌^◌, ◌++◌, List, [], ◌∷◌, map, length, take, Bool, true, false, cond, ◌&&◌, nat_le, refl, sym, ap, ◌∙◌, subst, arith, append-nil}
-use Rattle.std.specs.List.{AllByRecursion}
+use Rattle.std.proofs.Common.{◌≡◌, ℕ, ℤ, ◌+◌, ◌<◌, ◌≤◌, ◌^◌, ◌++◌, List, [], ◌∷◌, map, length, take, Bool, true, false, cond, ◌&&◌, nat_le, not, refl, sym, ap, ◌∙◌, subst, arith, append-nil}
+use Rattle.std.specs.List.{AllByRecursion, filter}
 use Rattle.std.proofs.Math.ListN.{length-take}
 use Rattle.std.proofs.lemmas.Bool.Decides.{nat_tests}
 use Rattle.std.proofs.lemmas.List.{length-map}
@@ -15,7 +15,6 @@ use Rattle.mi_board.specs.declared.actors.ActorState.{ActorState}
 use Rattle.mi_board.specs.Actors.{change, without_claim}
 use Rattle.mi_board.specs.Boards.{BoardState, with_actor, with_split}
 use Rattle.mi_board.proofs.ActorLemmas.{length-change}
-use Rattle.mi_board.proofs.StepLemmas.{state}
 use Rattle.mi_key.specs.declared.entries.Entry.{Entry}
 use Rattle.mi_key.specs.declared.keys.KeyParts.{KeyParts}
 use Rattle.mi_key.specs.Clusters.{cluster_of}
@@ -29,7 +28,7 @@ use Rattle.mi_tree.specs.Placing.{grid_under}
 use Rattle.mi_key.proofs.FitLemmas.{distance_fits, id_fits}
 use Rattle.mi_rules.proofs.BelowLemmas.{all_below-permutation}
 use Rattle.mi_rules.proofs.StandingLemmas.{leaf_key_parts}
-use Rattle.mi_tree.specs.Cells.{IsGrid, depth, leaf_of}
+use Rattle.mi_tree.specs.Cells.{IsGrid, depth, leaf_of, same_cell}
 use Rattle.mi_tree.specs.Legal.{LegalLog, MayFollow}
 use Rattle.mi_tree.proofs.CatalogLemmas.{depth_is}
 use Rattle.mi_tree.proofs.GridLemmas.{space_is_grid}
@@ -168,11 +167,12 @@ objects_stay p levels (e ∷ es) =
 
 module _ (b : BoardState) (pivots : List (List ℤ)) (entries : List (ℕ × Entry)) (is : IsPlain b pivots entries) where
   -- a claim, a release or a sweep
-  pub plain_beside : (actors : List ActorState) (retired : List (List ℕ)) → length actors ≡ 2 → IsPlain (state b.settings b.log actors retired) pivots entries
+  pub plain_beside : (actors : List ActorState) (retired : List (List ℕ)) → length actors ≡ 2 → IsPlain (record b { actors = actors; retired = retired }) pivots entries
   plain_beside actors retired two = record {
     limits = is.limits;
     pivots_are = is.pivots_are;
     two = two;
+    whole = is.whole;
     same = is.same;
     kept = is.kept;
   }
@@ -187,6 +187,7 @@ module _ (b : BoardState) (pivots : List (List ℤ)) (entries : List (ℕ × Ent
         limits = is.limits;
         pivots_are = is.pivots_are;
         two = length-change without_claim actor b.actors ∙ is.two;
+        whole = ap (filter (λ q. not (same_cell p q))) is.whole;
         same = subst (λ (xs : List Object). SameElements xs (live (updates_of (b.log ++ Split p ∷ [])))) (sym (objects_stay p b.settings.levels entries))
             (subst (λ (xs : List Object). SameElements (map object_in entries) xs) (sym (ap live (updates_of_split b.log p))) is.same);
         kept = all_rekeyed b.settings is.limits b.log legal p may entries is.kept;

@@ -20,7 +20,6 @@ use Rattle.mi_board.specs.Actors.{actor_at, change, claims_leaf_of, without_clai
 use Rattle.mi_board.specs.Boards.{BoardState, Commits, HasRoom, MayCommit, with_actor, with_event}
 use Rattle.mi_board.proofs.ActorLemmas.{length-change}
 use Rattle.mi_board.proofs.FoundLemmas.{kept_begins}
-use Rattle.mi_board.proofs.StepLemmas.{state}
 use Rattle.mi_key.specs.declared.entries.Entry.{Entry}
 use Rattle.mi_key.specs.Clusters.{cluster_of}
 use Rattle.mi_key.specs.Keys.{key_of}
@@ -66,7 +65,7 @@ module _ (b : BoardState) (pivots : List (List ℤ)) (entries : List (ℕ × Ent
 
   -- an update is made, of these objects
   plain_updated : (b' : BoardState) (entries' : List (ℕ × Entry)) (session op : ℕ) (u : Update) (actors : List ActorState) → length actors ≡ 2
-      → b' ≡ state b.settings (b.log ++ Made session op u ∷ []) actors b.retired
+      → b' ≡ record b { log = b.log ++ Made session op u ∷ []; actors = actors }
       → SameElements (map object_in entries') (live_after (live (updates_of b.log)) u)
       → AllByRecursion (λ e. IsKept b.settings b.log e.0 e.1) entries' → IsPlain b' pivots entries'
   plain_updated b' entries' session op u actors two is same kept =
@@ -75,6 +74,7 @@ module _ (b : BoardState) (pivots : List (List ℤ)) (entries : List (ℕ × Ent
         limits = p.limits;
         pivots_are = p.pivots_are;
         two = two;
+        whole = p.whole;
         same = subst (λ (os : List Object). SameElements (map object_in entries') os) (sym (live_updated b.log session op u)) same;
         kept = all_weaker (λ (e : ℕ × Entry). IsKept b.settings b.log e.0 e.1) (λ (e : ℕ × Entry). IsKept b.settings log' e.0 e.1) (λ e h. kept_updated b.settings b.log session op u e.0 e.1 h) entries' kept;
       })

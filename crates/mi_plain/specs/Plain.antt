@@ -1,5 +1,5 @@
 -- The plain list: what contracts see of it, and how it keeps that.
-use Rattle.std.specs.Prelude.{◌≡◌, ◌+◌, ◌-◌, ◌*◌, ◌≤◌, ◌&&◌, ℕ, ℤ, Bool, IsTrue, List, cond, map, length, take, None, nat_le}
+use Rattle.std.specs.Prelude.{◌≡◌, ◌+◌, ◌-◌, ◌*◌, ◌≤◌, ◌&&◌, ℕ, ℤ, Bool, IsTrue, List, [], cond, map, length, take, None, nat_le}
 use Rattle.std.specs.List.{AllByRecursion}
 use Rattle.mi_base.specs.declared.records.LogEvent.{LogEvent}
 use Rattle.mi_base.specs.Configuration.{Configuration, IsWithinLimits, metric_space, space_of}
@@ -28,11 +28,12 @@ pub record IsKept (c : Configuration) (log : List LogEvent) (id : ℕ) (e : Entr
   pub distance_is : (parts_of e.key).distance ≡ (grid_under c).distance e.vector
   pub lives : e.death ≡ None
 
--- the map has the live objects, each under the key of its leaf, beside a board of a session and a splitter
+-- the map has the live objects, each under the key of its leaf, beside a board of a session and a splitter, which passes no leaf over
 pub record IsPlain (b : BoardState) (pivots : List (List ℤ)) (entries : List (ℕ × Entry)) : Type 0 where
   pub limits : IsWithinLimits b.settings
   pub pivots_are : pivots ≡ b.settings.pivots
   pub two : length b.actors ≡ 2
+  pub whole : b.passed_over ≡ []
   pub same : SameElements (map object_in entries) (live (updates_of b.log))
   pub kept : AllByRecursion (λ e. IsKept b.settings b.log e.0 e.1) entries
 

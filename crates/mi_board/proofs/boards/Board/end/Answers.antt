@@ -4,7 +4,7 @@ use Rattle.mi_board.proofs.BoardLemmas.{log_short}
 use Rattle.mi_board.proofs.boards.Board.end.Goals as goal
 
 pub overflow_cast-result : goal.overflow_cast-result
-overflow_cast-result c = let b = c.self.invariant in omega (arith, log_short c.self.inside.settings b.limits c.self.inside.events.items b.legal, c.len.ensures)
+overflow_cast-result c = let b = c.self.invariant.board in omega (arith, log_short c.self.inside.settings b.limits c.self.inside.events.items b.legal, c.len.ensures)
 
 pub overflow_sub-result : goal.overflow_sub-result
-overflow_sub-result c = let b = c.self.invariant in omega (arith, few_updates c.self.inside.events.items, b.counted, c.len.ensures)
+overflow_sub-result c = let b = c.self.invariant.board in omega (arith, few_updates c.self.inside.events.items, b.counted, c.len.ensures)

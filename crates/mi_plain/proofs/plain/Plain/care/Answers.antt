@@ -1,7 +1,9 @@
-use Rattle.std.proofs.Common.{◌≡◌, ◌<◌, ◌∷◌, [], ◌∙◌, length, sym, subst, ap, arith, length-append}
+use Rattle.std.proofs.Common.{◌≡◌, ◌<◌, ◌∷◌, [], ◌∙◌, length, drop, sym, subst, ap, arith, length-append}
 use Rattle.mi_base.specs.declared.records.LogEvent.TheVariants.{Split}
 use Rattle.mi_board.specs.Actors.{with_claim}
-use Rattle.mi_board.specs.Boards.{BoardState, with_actor, with_split}
+use Rattle.mi_base.specs.History.{at_position}
+use Rattle.mi_board.specs.Boards.{BoardState, floor_of, with_actor, with_split}
+use Rattle.mi_board.proofs.FoundLemmas.{next_swept}
 use Rattle.mi_tree.specs.Growing.{GrowsBySplits}
 use Rattle.mi_plain.specs.Plain.{IsPlain, NoClaims, work_left}
 use Rattle.mi_plain.proofs.CareLemmas.{found_wanted, settled, less_work}
@@ -13,7 +15,14 @@ pub invariant_of-self : goal.invariant_of-self
 invariant_of-self c =
     let i = c.self.inside in
     let P : BoardState → Type 0 = λ x. IsPlain x i.pivots i.entries.entries in
-    subst P (sym c.in-Sweep.ensures.1) (plain_beside i.board i.pivots i.entries.entries c.self.invariant i.board.actors c.next_work.new.self.retired c.self.invariant.two)
+    subst P (sym c.in-Sweep.ensures.1) (plain_beside i.board i.pivots i.entries.entries c.self.invariant i.board.actors (drop 1 i.board.retired) c.self.invariant.two)
+
+pub returns-in-Sweep-clause-more : goal.returns-in-Sweep-clause-more
+returns-in-Sweep-clause-more c = λ _.
+    let b = c.self.inside.board in
+    let first = next_swept (at_position b.log (floor_of b)) b.retired c.in-Sweep.prefix c.in-Sweep.ensures.0 in
+    let fewer : work_left (record b { retired = drop 1 b.retired }) < work_left b = omega (arith, ap length first) in
+    subst (λ (x : BoardState). work_left c.next_work.new.self < work_left x) c.self.view_is (subst (λ (x : BoardState). work_left x < work_left b) (sym c.in-Sweep.ensures.1) fewer)
 
 pub invariant_of-self-in-Split : goal.invariant_of-self-in-Split
 invariant_of-self-in-Split c =

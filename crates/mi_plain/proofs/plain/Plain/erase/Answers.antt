@@ -1,9 +1,9 @@
-use Rattle.std.proofs.Common.{◌≡◌, ℕ, ◌∙◌, ap, sym, refl, subst, arith, length, map, true, false, List, Some, None}
+use Rattle.std.proofs.Common.{◌≡◌, ℕ, ◌∙◌, ap, sym, refl, subst, arith, length, map, ◌&&◌, true, false, List, Some, None}
 use Rattle.std.specs.Prelude.{◌==◌, is_some}
 use Rattle.std.specs.Map.{lookup, remove_entry}
 use Rattle.std.specs.BTreeMap.{is_at}
 use Rattle.std.specs.Ordering.{nat_cmp}
-use Rattle.std.proofs.lemmas.Bool.{false≢true}
+use Rattle.std.proofs.lemmas.Bool.{eq-eqb, false≢true}
 use Rattle.std.proofs.lemmas.List.{length-map}
 use Rattle.mi_base.specs.declared.records.LogEvent.TheVariants.{Update as Made}
 use Rattle.mi_base.specs.declared.records.Update.TheVariants.{Delete}
@@ -13,7 +13,9 @@ use Rattle.mi_base.specs.Permutations.{permutation_of}
 use Rattle.mi_base.proofs.HistoryLemmas.{same_any}
 use Rattle.mi_base.proofs.PivotLemmas.{length-permutation_of}
 use Rattle.mi_board.specs.Actors.{actor_at, with_claim, without_claim, with_reserved}
-use Rattle.mi_board.specs.Boards.{BoardState, MayDelete, with_actor, with_event}
+use Rattle.mi_board.specs.Boards.{BoardState, MayDelete, grid_in, with_actor, with_event}
+use Rattle.mi_tree.specs.Cells.{same_cell}
+use Rattle.mi_tree.proofs.LeafLemmas.{same_self}
 use Rattle.mi_plain.specs.Plain.{IsKept, object_in}
 use Rattle.mi_plain.proofs.EntryLemmas.{found, all_looked_up, one_entry}
 use Rattle.mi_plain.proofs.UpdateLemmas.{plain_removed, may_commit}
@@ -55,11 +57,12 @@ commit_delete-requires-clause-object c =
     let at : lookup (is_at (nat_cmp id)) es ≡ Some e = sym c.remove.ensures.value ∙ c.in-Some.is in
     let gone : lookup (is_at (nat_cmp id)) (remove_entry (is_at (nat_cmp id)) es) ≡ None = ap (lookup (is_at (nat_cmp id))) (sym c.remove.ensures.entries) ∙ c.remove.ensures.updates.1 in
     let kept : IsKept b.settings b.log id e = all_looked_up (λ x. IsKept b.settings b.log x.0 x.1) id e es at c.self.invariant.kept in
-    let may : MayDelete b id perm = record {
-      one = record { object = object_in (id, e); named = refl; whole = one_entry id e es (live (updates_of b.log)) at gone c.self.invariant.same };
-      perm_is = c.permutation-perm.ensures.value ∙ ap (λ (ds : List ℕ). permutation_of ds) kept.dists_are;
-    } in
-    subst (λ (x : BoardState). MayDelete x id perm) (sym c.in-Taken.ensures.1.1) (record { one = may.one; perm_is = may.perm_is })
+    let whole = one_entry id e es (live (updates_of b.log)) at gone c.self.invariant.same in
+    let perm_is : perm ≡ (grid_in b).perm e.vector = c.permutation-perm.ensures.value ∙ ap (λ (ds : List ℕ). permutation_of ds) kept.dists_are in
+    let named : (id == id) ≡ true = eq-eqb id id refl in
+    let mine : same_cell perm ((grid_in b).perm e.vector) ≡ true = ap (same_cell perm) (sym perm_is) ∙ same_self perm in
+    let may : MayDelete b id perm = same_any (λ (o : Object). (o.id == id) && same_cell perm ((grid_in b).perm o.vector)) (live (updates_of b.log)) _ whole ∙ (rw (named, mine) refl) in
+    subst (λ (x : BoardState). MayDelete x id perm) (sym c.in-Taken.ensures.1.1) may
 
 pub invariant_of-self : goal.invariant_of-self
 invariant_of-self c =
