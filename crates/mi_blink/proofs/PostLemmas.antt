@@ -7,7 +7,7 @@ use Rattle.mi_blink.specs.declared.post.PostState.{PostState}
 use Rattle.mi_blink.specs.declared.post.PostTurn.TheVariants.{More}
 use Rattle.mi_blink.specs.declared.post.Waiting.{Waiting}
 use Rattle.mi_blink.specs.Descents.{descent, Falls, IsRoot}
-use Rattle.mi_blink.specs.Posting.{Ready, StateIsReady, EachWaits, WaitFits, Turned, OwesOnly, Cause, Leads, left_in, left_waiting, pending, is_waiting}
+use Rattle.mi_blink.specs.Posting.{Ready, StateIsReady, EachWaits, WaitFits, Turned, OwesOnly, Cause, Leads, left_in, left_waiting, pending, is_waiting, root_after}
 use Rattle.mi_world.proofs.ViewLemmas.{child_keeps}
 use Rattle.mi_blink.proofs.DescentLemmas.{reached_keeps, descent_keeps, falls_beside}
 
@@ -59,15 +59,16 @@ pub owes_only_stays : (start more : ℕ → Bool) (v w : View) → Later v w →
 owes_only_stays start more v w l e h f p o = h (excused_before v w l f) p (subst (λ (g : ℕ → Bool). IsTrue (g p)) e o)
 
 -- a section that keeps the route under way
-pub goes_on : (op : Post) (v w : View) (s₀ s : PostState) (r : Option ℕ) → Ready op v → op.state ≡ s₀ → Later v w → SameWork v w → w.owes ≡ v.owes → IfSome r (IsRoot w)
+pub goes_on : (op : Post) (v w : View) (s₀ s : PostState) (r : Option ℕ) → Ready op v → op.state ≡ s₀ → Later v w → SameWork v w → w.owes ≡ v.owes → IfSome r (IsRoot w) → r ≡ root_after s₀ op.root w
     → StateIsReady s op.level op.key w → Cause s op.level w → (IsTrue w.tells_full → Falls v (left_in s₀ op.level v) w (left_in s op.level w))
     → Leads s₀ op (record { level = op.level; key = op.key; child = op.child; state = s; waiting = op.waiting; root = r }) w
     → Turned op v More (record { level = op.level; key = op.key; child = op.child; state = s; waiting = op.waiting; root = r }) w
-goes_on op v w s₀ s r ready e l k owes root state cause falls leads = record {
+goes_on op v w s₀ s r ready e l k owes root latest state cause falls leads = record {
   later = l;
   work = k;
   owes = λ start h. owes_only_stays start (pending op) v w l owes h;
   root_is = root;
+  latest = rw e latest;
   cause = cause;
   outcome = (
     record {

@@ -16,7 +16,7 @@ use Rattle.mi_blink.specs.declared.post.PostTurn.{PostTurn}
 use Rattle.mi_blink.specs.declared.post.PostTurn.TheVariants.{More, Done, Left, Memory}
 use Rattle.mi_blink.specs.declared.post.Waiting.{Waiting}
 use Rattle.mi_blink.specs.Descents.{longest, budget, Stands, Reached, post_most}
-use Rattle.mi_blink.specs.Posting.{Ready, EachWaits, WaitFits, Turned, OwesOnly, Leads, wants_page, Resumes, Ends, Pops, Waits, left, left_in, left_waiting, pending, is_waiting}
+use Rattle.mi_blink.specs.Posting.{Ready, EachWaits, WaitFits, Turned, OwesOnly, Leads, wants_page, Resumes, Ends, Pops, Waits, left, left_in, left_waiting, pending, is_waiting, root_after}
 use Rattle.mi_world.proofs.ViewLemmas.{child_keeps}
 use Rattle.mi_blink.proofs.DescentLemmas.{reached_keeps, some_root_keeps, descent_keeps, descent_longest, budget_stays, budget_allots, budget_uses, falls_by, stands_at, stands_down, stands_right, down_less, right_less}
 use Rattle.mi_blink.proofs.PostLemmas.{goes_on, waits_keep, waiting_keeps, waits_front, waits_last, waits_more, waiting_more, is_waiting_last, excused_before}
@@ -54,7 +54,7 @@ leads_wanting Growing op new w r e = tt
 leads_wanting Over op new w r e = absurd cc
 
 module _ (op new : Post) (v w : View) (ready : Ready op v) (l : Later v w) (k : SameWork v w) (less : budget w ≤ budget v)
-    (rest : (start : ℕ → Bool) → OwesOnly start (pending op) v → OwesOnly start (λ p. is_waiting p op.waiting.items) w) where
+    (rest : (start : ℕ → Bool) → OwesOnly start (pending op) v → OwesOnly start (λ p. is_waiting p op.waiting.items) w) (unchanged : root_after op.state op.root w ≡ op.root) where
   pub resumes : (r : Resumes op new) → Leads op.state op new w → Turned op v More new w
   resumes r leads =
       let waits : EachWaits w 0 (r.waiting ++ r.below ∷ []) = rw (← r.waited) (waits_keep v w 0 op.waiting.items l ready.waits) in
@@ -67,6 +67,7 @@ module _ (op new : Post) (v w : View) (ready : Ready op v) (l : Later v w) (k : 
             (let g : IsTrue (start p || is_waiting p (r.waiting ++ r.below ∷ [])) = rw (← r.waited) (rest start h f p o) in
             let e = is_waiting_last p r.waiting r.below in grind (arith, e, g));
         root_is = rw r.root_is (some_root_keeps v w op.root l ready.root_is);
+        latest = r.root_is ∙ sym unchanged;
         cause = rw r.state_is tt;
         outcome = (
           record {
@@ -91,6 +92,7 @@ module _ (op new : Post) (v w : View) (ready : Ready op v) (l : Later v w) (k : 
     work = k;
     owes = none_left e;
     root_is = rw e.root_is (some_root_keeps v w op.root l ready.root_is);
+    latest = e.root_is ∙ sym unchanged;
     cause = rw e.state_is tt;
     outcome = (e.state_is, less, wants);
   }
@@ -101,6 +103,7 @@ module _ (op new : Post) (v w : View) (ready : Ready op v) (l : Later v w) (k : 
     work = k;
     owes = none_left e;
     root_is = rw e.root_is (some_root_keeps v w op.root l ready.root_is);
+    latest = e.root_is ∙ sym unchanged;
     cause = rw e.state_is tt;
     outcome = (e.state_is, h.0, h.1, h.2, h.3, less, record { wanted = wants; waiting_is = e.waited; fresh = h.2 });
   }
@@ -111,6 +114,7 @@ module _ (op new : Post) (v w : View) (ready : Ready op v) (l : Later v w) (k : 
     work = k;
     owes = none_left e;
     root_is = rw e.root_is (some_root_keeps v w op.root l ready.root_is);
+    latest = e.root_is ∙ sym unchanged;
     cause = rw e.state_is tt;
     outcome = (e.state_is, h.0, less, record { wanted = wants; waiting_is = e.waited; fresh = h.1 });
   }
@@ -150,33 +154,33 @@ module _ (op : Post) (v w : View) (page : ℕ) (ready : Ready op v) (state : op.
   }
 
   pub posts_down : (q : ℕ) → Posts v w page op.level op.key op.child (put.Down q) → Turned op v More (record { level = op.level; key = op.key; child = op.child; state = Posting q; waiting = op.waiting; root = op.root }) w
-  posts_down q k = goes_on op v w (Posting page) (Posting q) op.root ready state k.later k.work k.answer.0 (some_root_keeps v w op.root k.later ready.root_is)
+  posts_down q k = goes_on op v w (Posting page) (Posting q) op.root ready state k.later k.work k.answer.0 (some_root_keeps v w op.root k.later ready.root_is) refl
       (stands_down v w page q op.level op.key stands.small k.answer.1) tt
       (λ _. falls_by v w _ _ k.later k.fresh (omega (arith, down_less v w page q op.level op.key stands.small k.answer.1)))
       tt
 
   pub posts_right : (q : ℕ) → Posts v w page op.level op.key op.child (put.Right q) → Turned op v More (record { level = op.level; key = op.key; child = op.child; state = Posting q; waiting = op.waiting; root = op.root }) w
-  posts_right q k = goes_on op v w (Posting page) (Posting q) op.root ready state k.later k.work k.answer.0 (some_root_keeps v w op.root k.later ready.root_is)
+  posts_right q k = goes_on op v w (Posting page) (Posting q) op.root ready state k.later k.work k.answer.0 (some_root_keeps v w op.root k.later ready.root_is) refl
       (stands_right v w page q op.level op.key stands.small k.answer.1) tt
       (λ _. falls_by v w _ _ k.later k.fresh (omega (arith, right_less v w page q op.level op.key k.answer.1)))
       tt
 
   pub posts_full : Posts v w page op.level op.key op.child put.PageFull → is_some w.fresh ≡ true
       → Turned op v More (record { level = op.level; key = op.key; child = op.child; state = Halving page; waiting = op.waiting; root = op.root }) w
-  posts_full k f = goes_on op v w (Posting page) (Halving page) op.root ready state k.later k.work k.answer.0 (some_root_keeps v w op.root k.later ready.root_is)
+  posts_full k f = goes_on op v w (Posting page) (Halving page) op.root ready state k.later k.work k.answer.0 (some_root_keeps v w op.root k.later ready.root_is) refl
       (still k.later k.answer.1, f) tt
       (λ t. falls_by v w _ _ k.later k.fresh (omega (arith, descent_keeps v w page k.later stands.named, full_none (w.full page) (k.answer.2.told_full t))))
       tt
 
   pub posts_wanting : Posts v w page op.level op.key op.child put.PageFull → is_some w.fresh ≡ false
       → Turned op v More (record { level = op.level; key = op.key; child = op.child; state = Allotting page; waiting = op.waiting; root = op.root }) w
-  posts_wanting k f = goes_on op v w (Posting page) (Allotting page) op.root ready state k.later k.work k.answer.0 (some_root_keeps v w op.root k.later ready.root_is)
+  posts_wanting k f = goes_on op v w (Posting page) (Allotting page) op.root ready state k.later k.work k.answer.0 (some_root_keeps v w op.root k.later ready.root_is) refl
       (still k.later k.answer.1, f) (k.page_is, k.answer.2.many, f)
       (λ t. falls_by v w _ _ k.later k.fresh (omega (arith, descent_keeps v w page k.later stands.named)))
       tt
 
   pub posts_done : (new : Post) (result : PostTurn) → Posts v w page op.level op.key op.child put.Done → Pops op Done result new → Turned op v result new w
-  posts_done new result k p = pops_done op new v w ready k.later k.work (budget_stays v w k.later k.fresh) (rest_paid op v w k.later k.answer.0)
+  posts_done new result k p = pops_done op new v w ready k.later k.work (budget_stays v w k.later k.fresh) (rest_paid op v w k.later k.answer.0) (rw state refl)
       result (λ r. rw state tt) (rw state refl) p
 
 -- a page is allotted
@@ -185,17 +189,17 @@ module _ (op : Post) (v w : View) (page : ℕ) (ready : Ready op v) (state : op.
   wanting = rw state at ready.state
 
   pub allots : (u : Unit {0}) → Allots v w (Rattle.std.specs.Prelude.Ok u) → Turned op v More (record { level = op.level; key = op.key; child = op.child; state = Halving page; waiting = op.waiting; root = op.root }) w
-  allots u k = goes_on op v w (Allotting page) (Halving page) op.root ready state k.later k.work k.owes (some_root_keeps v w op.root k.later ready.root_is)
+  allots u k = goes_on op v w (Allotting page) (Halving page) op.root ready state k.later k.work k.owes (some_root_keeps v w op.root k.later ready.root_is) refl
       (reached_keeps v w page op.level op.key k.later wanting.0, k.answer.0) tt
       (λ _. inl (budget_allots v w k.later wanting.1 k.answer.0 k.answer.1 k.board.few))
       (λ none. k.answer.0)
 
   pub allots_none : (new : Post) (result : PostTurn) (limit : ℕ) → Allots v w (Rattle.std.specs.Prelude.Err (allot.PagesFull limit)) → Pops op (Left limit) result new → Turned op v result new w
-  allots_none new result limit k p = pops_left op new v w ready k.later k.work (budget_stays v w k.later k.answer.0) (rest_told op v w k.answer.3)
+  allots_none new result limit k p = pops_left op new v w ready k.later k.work (budget_stays v w k.later k.answer.0) (rest_told op v w k.answer.3) (rw state refl)
       limit result (rw state refl) (k.answer.1, k.answer.2, ap is_some k.answer.0 ∙ wanting.1, k.answer.3) p
 
   pub allots_memory : (new : Post) (result : PostTurn) → Allots v w (Rattle.std.specs.Prelude.Err allot.Memory) → Pops op Memory result new → Turned op v result new w
-  allots_memory new result k p = pops_memory op new v w ready k.later k.work (budget_stays v w k.later k.answer.0) (rest_lacked op v w k.answer.1) result (rw state refl) (k.answer.1, ap is_some k.answer.0 ∙ wanting.1) p
+  allots_memory new result k p = pops_memory op new v w ready k.later k.work (budget_stays v w k.later k.answer.0) (rest_lacked op v w k.answer.1) (rw state refl) result (rw state refl) (k.answer.1, ap is_some k.answer.0 ∙ wanting.1) p
 
 -- a page is allotted for a new root
 module _ (op : Post) (v w : View) (ready : Ready op v) (state : op.state ≡ Widening) where
@@ -203,16 +207,16 @@ module _ (op : Post) (v w : View) (ready : Ready op v) (state : op.state ≡ Wid
   bare = rw state at ready.state
 
   pub widens : (u : Unit {0}) → Allots v w (Rattle.std.specs.Prelude.Ok u) → Turned op v More (record { level = op.level; key = op.key; child = op.child; state = Growing; waiting = op.waiting; root = op.root }) w
-  widens u k = goes_on op v w Widening Growing op.root ready state k.later k.work k.owes (some_root_keeps v w op.root k.later ready.root_is) k.answer.0 tt
+  widens u k = goes_on op v w Widening Growing op.root ready state k.later k.work k.owes (some_root_keeps v w op.root k.later ready.root_is) refl k.answer.0 tt
       (λ _. inl (budget_allots v w k.later bare k.answer.0 k.answer.1 k.board.few))
       (λ none. k.answer.0)
 
   pub widens_none : (new : Post) (result : PostTurn) (limit : ℕ) → Allots v w (Rattle.std.specs.Prelude.Err (allot.PagesFull limit)) → Pops op (Left limit) result new → Turned op v result new w
-  widens_none new result limit k p = pops_left op new v w ready k.later k.work (budget_stays v w k.later k.answer.0) (rest_told op v w k.answer.3)
+  widens_none new result limit k p = pops_left op new v w ready k.later k.work (budget_stays v w k.later k.answer.0) (rest_told op v w k.answer.3) (rw state refl)
       limit result (rw state refl) (k.answer.1, k.answer.2, ap is_some k.answer.0 ∙ bare, k.answer.3) p
 
   pub widens_memory : (new : Post) (result : PostTurn) → Allots v w (Rattle.std.specs.Prelude.Err allot.Memory) → Pops op Memory result new → Turned op v result new w
-  widens_memory new result k p = pops_memory op new v w ready k.later k.work (budget_stays v w k.later k.answer.0) (rest_lacked op v w k.answer.1) result (rw state refl) (k.answer.1, ap is_some k.answer.0 ∙ bare) p
+  widens_memory new result k p = pops_memory op new v w ready k.later k.work (budget_stays v w k.later k.answer.0) (rest_lacked op v w k.answer.1) (rw state refl) result (rw state refl) (k.answer.1, ap is_some k.answer.0 ∙ bare) p
 
 two : (b : Bool) → b ≡ false → cond b 4 2 ≤ 2
 two true e = cc
@@ -226,12 +230,12 @@ module _ (op : Post) (v w : View) (ready : Ready op v) (state : op.state ≡ Gro
   pub grows : (new : Post) (result : PostTurn) → Grew v w op.level op.child true → Pops op Done result new → Turned op v result new w
   grows new result k p =
       let less : budget w < budget v = budget_uses v w k.later held k.answer.2 in
-      pops_done op new v w ready k.later k.work (omega arith) (rest_paid op v w k.later k.answer.3) result (λ r. rw state tt) (rw state refl) p
+      pops_done op new v w ready k.later k.work (omega arith) (rest_paid op v w k.later k.answer.3) (rw state refl) result (λ r. rw state tt) (rw state refl) p
 
   pub grows_not : Grew v w op.level op.child false → Turned op v More (record { level = op.level; key = op.key; child = op.child; state = Looking; waiting = op.waiting; root = op.root }) w
   grows_not k =
       let high : nat_lt w.least op.level ≡ false = let h = k.answer.3 in grind (arith, nat_tests) in
-      goes_on op v w Growing Looking op.root ready state k.later k.work k.answer.2 (some_root_keeps v w op.root k.later ready.root_is) tt tt
+      goes_on op v w Growing Looking op.root ready state k.later k.work k.answer.2 (some_root_keeps v w op.root k.later ready.root_is) refl tt tt
       (λ _. falls_by v w _ _ k.later k.answer.1 (omega (arith, two (nat_lt w.least op.level) high)))
       tt
 
@@ -255,7 +259,7 @@ module _ (op : Post) (v w : View) (page : ℕ) (ready : Ready op v) (state : op.
   full_page = rw state at ready.state
 
   pub halves_not : PartsPage v w page part.Roomy → Turned op v More (record { level = op.level; key = op.key; child = op.child; state = Posting page; waiting = op.waiting; root = op.root }) w
-  halves_not k = goes_on op v w (Halving page) (Posting page) op.root ready state k.later k.work k.answer.1 (some_root_keeps v w op.root k.later ready.root_is)
+  halves_not k = goes_on op v w (Halving page) (Posting page) op.root ready state k.later k.work k.answer.1 (some_root_keeps v w op.root k.later ready.root_is) refl
       (stands_at w page op.level op.key (reached_keeps v w page op.level op.key k.later full_page.0)) tt
       (λ t. falls_by v w _ _ k.later k.answer.0
       (omega (arith, descent_keeps v w page k.later full_page.0.named, two_full (v.full page) (k.answer.3 (rw (← k.later.tells_full) t)))))
@@ -273,6 +277,7 @@ module _ (op : Post) (v w : View) (page : ℕ) (ready : Ready op v) (state : op.
         owes = λ start h f p o. rw (r.child_is, r.waiting_is, is_waiting_last p op.waiting.items x)
             (owe (v.owes p) (p == child) (start p) (p == op.child) (is_waiting p op.waiting.items) (h (excused_before v w k.later f) p) (subst (λ (g : ℕ → Bool). IsTrue (g p)) a.1 o));
         root_is = rw r.root_is (some_root_keeps v w op.root k.later ready.root_is);
+        latest = rw state r.root_is;
         cause = rw r.state_is tt;
         outcome = (
           record {

@@ -1,5 +1,5 @@
 -- A post between its sections, and what a section of it does.
-use Rattle.std.specs.Prelude.{is_some, ◌≡◌, ◌≤◌, ◌<◌, ◌+◌, ◌*◌, ◌==◌, ◌||◌, ◌∷◌, ◌++◌, [], ℕ, List, Some, None, Bool, true, false, IsTrue, IfSome, length, cond, nat_lt, ◌⊎◌}
+use Rattle.std.specs.Prelude.{is_some, ◌≡◌, ◌≤◌, ◌<◌, ◌+◌, ◌*◌, ◌==◌, ◌||◌, ◌∷◌, ◌++◌, [], ℕ, List, Option, Some, None, Bool, true, false, IsTrue, IfSome, length, cond, nat_lt, ◌⊎◌}
 use Rattle.std.specs.List.{list_any}
 use Rattle.mi_blink.specs.declared.post.Post.{Post}
 use Rattle.mi_blink.specs.declared.post.PostState.{PostState}
@@ -166,11 +166,17 @@ Outcome old v (Left limit) new w =
     (new.state ≡ Over) × (limit ≡ w.settings.pages) × (w.allotted ≡ limit) × (is_some w.fresh ≡ false) × IsTrue w.told × (budget w ≤ budget v) × LacksPage old w
 Outcome old v Memory new w = (new.state ≡ Over) × IsTrue w.lacked × (budget w ≤ budget v) × LacksPage old w
 
+-- the root that the latest look gave, after a section
+abbrev pub root_after : PostState → Option ℕ → View → Option ℕ
+root_after Looking root w = Some w.root
+root_after state root w = root
+
 -- what a section of a post makes of it and of its actor
 pub record Turned (old : Post) (v : View) (turn : PostTurn) (new : Post) (w : View) : Type 0 where
   pub later : Later v w
   pub work : SameWork v w
   pub owes : (start : ℕ → Bool) → OwesOnly start (pending old) v → OwesOnly start (pending_after turn new) w
   pub root_is : IfSome new.root (IsRoot w)
+  pub latest : new.root ≡ root_after old.state old.root w
   pub cause : Cause new.state new.level w
   pub outcome : Outcome old v turn new w
