@@ -41,7 +41,7 @@ abbrev pub IsWhy : Reason → View → Type 0
 IsWhy (NoPages limit) v = (limit ≡ v.settings.pages) × IsTrue v.told
 IsWhy Memory v = Unit {0}
 
--- the whole leaf is gathered, a copy more is to be made, and this is the root of the latest look
+-- the whole leaf is gathered, a copy more is to be made, and a look gave this root
 pub record MayCopy (root : ℕ) (v : View) : Type 0 where
   pub whole : IsGathered v
   pub more : v.copied < length v.copies
@@ -145,7 +145,8 @@ Makes (Allotting page) old v new w =
     (answer : Result (Unit {0}) AllotRefusal) × Allots v w answer × (new.state ≡ after_allot answer page old.root w) × (new.root ≡ old.root)
 Makes (Halving page) old v new w = (answer : Parted) × PartsPage v w page answer × AfterHalf answer page new × (new.root ≡ old.root)
 Makes (Posting page) old v new w =
-    (before : Post) × (after : Post) × (answer : PostTurn) × (old.post ≡ Some before) × posting.Turned before v answer after w × AfterPost answer page after old new
+    (before : Post) × (after : Post) × (answer : PostTurn) × (old.post ≡ Some before) × posting.Turned before v answer after w
+    × AfterPost answer page after old new
 Makes Publishing old v new w =
     (answer : Result Position NoMemory) × Publishes v w answer × (new.state ≡ after_publish answer old.root w) × (new.root ≡ old.root)
 Makes (Undoing page why) old v new w =
