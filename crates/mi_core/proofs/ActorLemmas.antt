@@ -5,7 +5,7 @@ use Rattle.std.proofs.lemmas.Bool.{cases_eq}
 use Rattle.std.proofs.lemmas.Option.{none-some, same_Some}
 use Rattle.mi_base.specs.declared.records.LogEvent.{LogEvent}
 use Rattle.mi_core.specs.Claims.{AreRetired, ClaimAlone, HasHolder, SweepAlone}
-use Rattle.mi_core.specs.Boards.{ActorState}
+use Rattle.mi_board.specs.declared.actors.ActorState.{ActorState}
 use Rattle.mi_core.specs.Pages.{has_page, is_page}
 use Rattle.mi_core.specs.State.{count_if}
 use Rattle.mi_entries.specs.Actors.{Actor}

@@ -4,7 +4,7 @@ use Rattle.std.specs.Prelude.{slice_get}
 use Rattle.mi_base.specs.History.{entered, events_at}
 use Rattle.mi_page.specs.Nodes.{Node}
 use Rattle.mi_core.specs.Actors.{Suits}
-use Rattle.mi_core.specs.Boards.{floor_of, BoardState}
+use Rattle.mi_board.specs.Boards.{floor_of, BoardState}
 use Rattle.mi_core.specs.Effects.{saw}
 use Rattle.mi_core.specs.Events.{after}
 use Rattle.mi_core.specs.Events.Event.{allot}

@@ -9,7 +9,9 @@ use Rattle.mi_tree.specs.Legal.{cells_of}
 use Rattle.mi_core.specs.Actors.{Suits, pinned_at}
 use Rattle.mi_tree.specs.Births.{was_split}
 use Rattle.mi_core.specs.Claims.{ClaimAlone}
-use Rattle.mi_core.specs.Boards.{floor_of, BoardState, ActorState, idle, gone, with_actor, with_pin, without_pin}
+use Rattle.mi_board.specs.Boards.{floor_of, BoardState, with_actor}
+use Rattle.mi_board.specs.Actors.{idle, gone, with_pin, without_pin}
+use Rattle.mi_board.specs.declared.actors.ActorState.{ActorState}
 use Rattle.mi_core.specs.Effects.{looked, saw}
 use Rattle.mi_core.specs.Events.{MayClaim, after}
 use Rattle.mi_core.specs.Events.Event.{claim_leaf, depart, pin, release_leaf, take_split, unpin}
@@ -21,7 +23,8 @@ use Rattle.mi_core.specs.State.{State, board_actor, put_actor, put_board}
 use Rattle.mi_entries.specs.Entries.{grid}
 use Rattle.mi_core.proofs.ActorLemmas.{set_claim, at_set, claims_by, claims_end, each_set, holders_by, retired_by, sweeps_by, works_by}
 use Rattle.mi_entries.proofs.ContentLemmas.{entries_rise, entries_stay}
-use Rattle.mi_core.proofs.FloorLemmas.{end_events, end_position, least_pinned, least_same, least_unpin}
+use Rattle.mi_core.proofs.FloorLemmas.{least_pinned, least_same, least_unpin}
+use Rattle.mi_board.proofs.FloorLemmas.{end_events, end_position}
 use Rattle.mi_core.proofs.NextLemmas.{unclaimed_by}
 use Rattle.mi_core.proofs.KeptLemmas.{floor_position, on_board}
 use Rattle.mi_tree.proofs.ListLemmas.{all_weaker}

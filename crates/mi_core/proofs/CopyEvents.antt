@@ -12,7 +12,7 @@ use Rattle.mi_page.specs.Nodes.{Node, in_range}
 use Rattle.mi_tree.specs.Cells.{Grid, AllMaySplit, same_cell}
 use Rattle.mi_tree.proofs.LegalLemmas.{all_may}
 use Rattle.mi_core.specs.Actors.{Suits}
-use Rattle.mi_core.specs.Boards.{floor_of}
+use Rattle.mi_board.specs.Boards.{floor_of}
 use Rattle.mi_core.specs.Effects.{put_entry}
 use Rattle.mi_core.specs.Events.{IsLeafPage, IsWhole, after, copied_of, copied_to}
 use Rattle.mi_core.specs.Events.Event.{copy_in}

@@ -21,7 +21,9 @@ use Rattle.mi_tree.proofs.LeafLemmas.{leaf_is}
 use Rattle.mi_tree.proofs.LegalLemmas.{all_may, one_live}
 use Rattle.mi_core.specs.Actors.{Suits, made_by}
 use Rattle.mi_tree.specs.Births.{was_split, born, Born}
-use Rattle.mi_core.specs.Boards.{floor_of, BoardState, ActorState, idle, with_reserved}
+use Rattle.mi_board.specs.Boards.{floor_of, BoardState}
+use Rattle.mi_board.specs.Actors.{idle, with_reserved}
+use Rattle.mi_board.specs.declared.actors.ActorState.{ActorState}
 use Rattle.mi_entries.specs.Records.{held_by, without_id, Rows, Shard, home, no_shard, shard_at}
 use Rattle.mi_core.specs.Effects.{committed, mark_entry, with_update}
 use Rattle.mi_entries.specs.Entries.{id_of, grid, HasPlace, Shows, counts}
@@ -37,7 +39,8 @@ use Rattle.mi_core.specs.State.{count_if, State, board_actor, node_at}
 use Rattle.mi_entries.specs.Actors.{Actor, SplitWork, SweepWork}
 use Rattle.mi_core.proofs.ActorLemmas.{SameHands, claims_stay, each_set, held_stays, holders_stay, retired_stay, sweeps_stay, works_stay}
 use Rattle.mi_entries.proofs.ContentLemmas.{HasSplit, entries_rise, entries_stay, leaf_more}
-use Rattle.mi_core.proofs.FloorLemmas.{at_more, end_events, least_is, least_rises, least_same}
+use Rattle.mi_core.proofs.FloorLemmas.{least_is, least_rises, least_same}
+use Rattle.mi_board.proofs.FloorLemmas.{at_more, end_events}
 use Rattle.mi_core.proofs.KeptLemmas.{all_snoc, pins_stand, retired_more, saw_more, some_none}
 use Rattle.mi_entries.proofs.KeyedLemmas.{is_keyed}
 use Rattle.mi_core.proofs.PageLemmas.{in_page, linked_set, page_sets, root_set, there_set, within}

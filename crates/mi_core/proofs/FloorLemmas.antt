@@ -1,31 +1,13 @@
--- Positions and floors as a log grows.
-use Rattle.std.proofs.Common.{◌≡◌, ℕ, suc, zero, ◌≤◌, List, [], ◌∷◌, ◌++◌, length, get_or, set, Bool, true, false, cond, nat_le, refl, ap, ◌∙◌, arith, Option, Some, None, length-append}
+-- Floors, as pins and the log change.
+use Rattle.std.proofs.Common.{◌≡◌, ℕ, suc, zero, ◌≤◌, List, [], ◌∷◌, get_or, set, Bool, true, false, cond, nat_le, refl, ap, arith, Option, Some, None}
 use Rattle.std.proofs.lemmas.Bool.{leb-true}
 use Rattle.std.proofs.lemmas.Bool.Decides.{nat_tests}
-use Rattle.std.proofs.lemmas.List.{take_all, take-append-le}
-use Rattle.mi_base.specs.declared.records.LogEvent.{LogEvent}
 use Rattle.mi_base.specs.declared.records.Position.{Position}
-use Rattle.mi_base.specs.History.{IsPosition, at_position, end_of, events_at, updates_of}
-use Rattle.mi_base.proofs.HistoryLemmas.{few_updates}
-use Rattle.mi_core.specs.Boards.{earlier, least_pin, ActorState, idle}
-
-pub end_events : (log : List LogEvent) → events_at (end_of log) ≡ length log
-end_events log = omega (arith, few_updates log)
-
-pub end_position : (log : List LogEvent) → IsPosition log (end_of log)
-end_position log = record {
-  within = omega (arith, few_updates log);
-  updates = ap (λ (l : List LogEvent). length (updates_of l)) (take_all (events_at (end_of log)) log (omega (arith, few_updates log)));
-}
-
-pub at_more : (log xs : List LogEvent) (p : Position) → IsPosition log p → at_position (log ++ xs) p ≡ at_position log p
-at_more log xs p h = take-append-le (events_at p) log xs h.within
-
-pub position_more : (log xs : List LogEvent) (p : Position) → IsPosition log p → IsPosition (log ++ xs) p
-position_more log xs p h = record {
-  within = (let w = h.within in omega (arith, length-append log xs));
-  updates = ap (λ (l : List LogEvent). length (updates_of l)) (at_more log xs p h) ∙ h.updates;
-}
+use Rattle.mi_base.specs.History.{events_at}
+use Rattle.mi_board.specs.Floors.{earlier, least_pin}
+use Rattle.mi_board.proofs.FloorLemmas.{least_low}
+use Rattle.mi_board.specs.Actors.{idle}
+use Rattle.mi_board.specs.declared.actors.ActorState.{ActorState}
 
 earlier_is : (P : Position → Type 0) (o : Option Position) (q : Position) → ((p : Position) → o ≡ Some p → P p) → P q → P (earlier o q)
 earlier_is P None q h k = k
@@ -65,10 +47,6 @@ earlier_low None q = omega arith
 earlier_low (Some p) q =
     let Q : Bool → Type 0 = λ b. nat_le (events_at p) (events_at q) ≡ b → events_at (cond b p q) ≤ events_at q in
     (elim (nat_le (events_at p) (events_at q)) as Q [ true ↦ λ s. leb-true (events_at p) (events_at q) s | false ↦ λ s. omega arith ]) refl
-
-pub least_low : (end : Position) (actors : List ActorState) → events_at (least_pin end actors) ≤ events_at end
-least_low end [] = omega arith
-least_low end (a ∷ actors) = omega (arith, earlier_low a.pin (least_pin end actors), least_low end actors)
 
 -- a pin that ends
 pub least_unpin : (f : ActorState → ActorState) → ((x : ActorState) → (f x).pin ≡ None) → (end : Position) (actors : List ActorState) (a : ℕ) → events_at (least_pin end actors) ≤ events_at (least_pin end (set actors a (f (get_or actors a idle))))

@@ -6,7 +6,10 @@ use Rattle.mi_base.specs.declared.records.Position.{Position}
 use Rattle.mi_base.specs.History.{Entered, IsPosition, end_of, entered, events_at}
 use Rattle.mi_core.specs.Actors.{Suits, made_by}
 use Rattle.mi_core.specs.Claims.{AreRetired}
-use Rattle.mi_core.specs.Boards.{earlier, floor_of, least_pin, BoardState, ActorState, idle}
+use Rattle.mi_board.specs.Boards.{floor_of, BoardState}
+use Rattle.mi_board.specs.Floors.{earlier, least_pin}
+use Rattle.mi_board.specs.Actors.{idle}
+use Rattle.mi_board.specs.declared.actors.ActorState.{ActorState}
 use Rattle.mi_core.specs.Effects.{saw}
 use Rattle.mi_core.specs.Events.{after, made_actor}
 use Rattle.mi_core.specs.Events.Event.{fork}

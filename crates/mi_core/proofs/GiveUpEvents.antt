@@ -12,7 +12,9 @@ use Rattle.mi_base.proofs.SortingLemmas.{same_length}
 use Rattle.mi_key.specs.declared.entries.Entry.{Entry}
 use Rattle.mi_tree.specs.Cells.{Grid}
 use Rattle.mi_core.specs.Actors.{Suits}
-use Rattle.mi_core.specs.Boards.{passing, leaf_claimed, floor_of, BoardState, ActorState, idle, with_actor}
+use Rattle.mi_board.specs.Boards.{passing, leaf_claimed, floor_of, BoardState, with_actor}
+use Rattle.mi_board.specs.Actors.{idle}
+use Rattle.mi_board.specs.declared.actors.ActorState.{ActorState}
 use Rattle.mi_core.specs.Effects.{saw}
 use Rattle.mi_entries.specs.Entries.{HasPlace, IsUnswept, IsWorked, born_in, depth_of, is_ahead, is_under, key_down, grid}
 use Rattle.mi_core.specs.Events.{after}

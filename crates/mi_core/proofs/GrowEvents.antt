@@ -5,7 +5,7 @@ use Rattle.std.proofs.lemmas.Bool.{cases_eq, ne_eqb}
 use Rattle.mi_base.specs.History.{entered, events_at}
 use Rattle.mi_page.specs.Nodes.{Node, root_node}
 use Rattle.mi_core.specs.Actors.{Suits}
-use Rattle.mi_core.specs.Boards.{floor_of, BoardState}
+use Rattle.mi_board.specs.Boards.{floor_of, BoardState}
 use Rattle.mi_core.specs.Effects.{paid, saw}
 use Rattle.mi_core.specs.Events.{after, hand}
 use Rattle.mi_core.specs.Events.Event.{grow}

@@ -12,7 +12,7 @@ use Rattle.std.specs.Prelude.{slice_get}
 use Rattle.std.proofs.lemmas.Bool.{cases_eq, eqb-true}
 use Rattle.mi_base.specs.History.{entered, events_at}
 use Rattle.mi_core.specs.Actors.{Suits}
-use Rattle.mi_core.specs.Boards.{floor_of}
+use Rattle.mi_board.specs.Boards.{floor_of}
 use Rattle.mi_core.specs.Events.{after, hand, split_at}
 use Rattle.mi_core.specs.Effects.{trim_leaf, trim_node}
 use Rattle.mi_core.specs.Events.Event.{split_page}

@@ -24,7 +24,9 @@ use Rattle.mi_tree.proofs.LeafLemmas.{leaf_is}
 use Rattle.mi_tree.proofs.LegalLemmas.{all_may}
 use Rattle.mi_core.specs.Actors.{Suits, made_by}
 use Rattle.mi_tree.specs.Births.{was_split}
-use Rattle.mi_core.specs.Boards.{floor_of, BoardState, ActorState, idle, with_reserved}
+use Rattle.mi_board.specs.Boards.{floor_of, BoardState}
+use Rattle.mi_board.specs.Actors.{idle, with_reserved}
+use Rattle.mi_board.specs.declared.actors.ActorState.{ActorState}
 use Rattle.mi_entries.specs.Records.{held_by, with_record, Rows, Shard, ShardRecord, home, no_shard, shard_at}
 use Rattle.mi_core.specs.Effects.{committed, put_entry, with_update}
 use Rattle.mi_entries.specs.Entries.{FitsKey, born_in, depth_of, id_of, key_down, grid}
@@ -40,7 +42,8 @@ use Rattle.mi_entries.specs.Actors.{Actor, SplitWork, SweepWork}
 use Rattle.mi_core.proofs.ActorLemmas.{SameHands, claims_stay, each_set, held_stays, holders_stay, retired_stay, sweeps_stay, works_stay}
 use Rattle.mi_entries.proofs.ContentLemmas.{HasSplit, entries_insert, entries_rise, entries_stay, entries_trim, leaf_more}
 use Rattle.mi_entries.proofs.EntryLemmas.{timely}
-use Rattle.mi_core.proofs.FloorLemmas.{at_more, end_events, least_is, least_rises, least_same}
+use Rattle.mi_core.proofs.FloorLemmas.{least_is, least_rises, least_same}
+use Rattle.mi_board.proofs.FloorLemmas.{at_more, end_events}
 use Rattle.mi_core.proofs.KeptLemmas.{all_snoc, pins_stand, retired_more, saw_more, some_none}
 use Rattle.mi_entries.proofs.NewLemmas.{its_leaf, key_is, named, aged, key_here, fits_here}
 use Rattle.mi_entries.proofs.KeyedLemmas.{is_keyed}

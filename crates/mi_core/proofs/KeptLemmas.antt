@@ -13,7 +13,9 @@ use Rattle.mi_tree.specs.Legal.{cells_of}
 use Rattle.mi_core.specs.Actors.{Saw, pinned_at}
 use Rattle.mi_tree.specs.Births.{is_split_of}
 use Rattle.mi_core.specs.Claims.{AreRetired}
-use Rattle.mi_core.specs.Boards.{floor_of, BoardState, ActorState, idle}
+use Rattle.mi_board.specs.Boards.{floor_of, BoardState}
+use Rattle.mi_board.specs.Actors.{idle}
+use Rattle.mi_board.specs.declared.actors.ActorState.{ActorState}
 use Rattle.mi_core.specs.Events.{made_actor}
 use Rattle.mi_core.specs.Sound.{Sound}
 use Rattle.mi_core.specs.Pages.{forest_of}
@@ -22,7 +24,8 @@ use Rattle.mi_forest.proofs.FlatLemmas.{flat_ascends}
 use Rattle.mi_entries.proofs.AbsentLemmas.{Rising, rising}
 use Rattle.mi_entries.specs.Actors.{Actor, Pin}
 use Rattle.mi_core.specs.State.{State}
-use Rattle.mi_core.proofs.FloorLemmas.{at_more, end_position, least_is, position_more}
+use Rattle.mi_core.proofs.FloorLemmas.{least_is}
+use Rattle.mi_board.proofs.FloorLemmas.{at_more, end_position, position_more}
 
 pub some_none : {X : Type 0} (b : X) → Some b ≡ None → ⊥
 some_none b h = cc

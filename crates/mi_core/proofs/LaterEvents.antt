@@ -15,7 +15,7 @@ use Rattle.mi_core.specs.Noted.{NotesStand}
 use Rattle.mi_core.proofs.NamedLemmas.{first_page}
 use Rattle.mi_entries.specs.Actors.{Actor}
 use Rattle.mi_core.specs.State.{State, node_at, put_actor}
-use Rattle.mi_core.specs.Boards.{BoardState}
+use Rattle.mi_board.specs.Boards.{BoardState}
 use Rattle.mi_entries.specs.Records.{Shard}
 use Rattle.mi_core.proofs.ActorLemmas.{at_set, set_else}
 use Rattle.std.proofs.lemmas.Option.{same_Some}

@@ -2,7 +2,7 @@
 use Rattle.mi_core.specs.Events.{Can, Event, MayClaim, after}
 use Rattle.mi_core.proofs.NextLemmas.{next_may, next_swept}
 use Rattle.mi_base.specs.History.{at_position, events_at}
-use Rattle.mi_core.specs.Boards.{floor_of}
+use Rattle.mi_board.specs.Boards.{floor_of}
 use Rattle.std.proofs.Common.{◌≡◌, ℕ, Some, ◌∙◌, ◌-◌, refl, sym, subst}
 use Rattle.std.specs.Prelude.{slice_get}
 use Rattle.mi_entries.specs.Actors.{Actor}

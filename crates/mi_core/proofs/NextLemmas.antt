@@ -10,10 +10,12 @@ use Rattle.mi_tree.specs.Cells.{same_cell}
 use Rattle.mi_tree.specs.Counting.{is_wanted}
 use Rattle.mi_tree.specs.Legal.{MayFollow, cells_of}
 use Rattle.mi_tree.proofs.LeafLemmas.{same_self}
-use Rattle.mi_board.specs.Actors.{is_claim}
+use Rattle.mi_board.specs.Actors.{is_claim, idle}
 use Rattle.mi_tree.specs.Births.{was_split}
 use Rattle.mi_core.specs.Events.{IsFree, MayClaim}
-use Rattle.mi_core.specs.Boards.{earliest_in, is_open, next_split, ActorState, idle}
+use Rattle.mi_board.specs.Boards.{is_open, next_split}
+use Rattle.mi_board.specs.Floors.{earliest_in}
+use Rattle.mi_board.specs.declared.actors.ActorState.{ActorState}
 use Rattle.mi_entries.specs.Actors.{Actor}
 use Rattle.mi_core.specs.State.{State}
 use Rattle.std.proofs.lemmas.Option.{none-some, same_Some}

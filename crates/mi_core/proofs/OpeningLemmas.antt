@@ -5,7 +5,8 @@ use Rattle.std.specs.List.{find}
 use Rattle.mi_base.specs.Configuration.{Configuration, IsWithinLimits, metric_space}
 use Rattle.mi_page.specs.Nodes.{Node, fresh_node}
 use Rattle.mi_core.specs.Actors.{Suits}
-use Rattle.mi_core.specs.Boards.{ActorState, idle}
+use Rattle.mi_board.specs.Actors.{idle}
+use Rattle.mi_board.specs.declared.actors.ActorState.{ActorState}
 use Rattle.mi_core.specs.Events.{opened, first_actor}
 use Rattle.mi_forest.specs.Forests.{IsForest, IsLinked, first_chain, first_forest}
 use Rattle.mi_core.specs.Sound.{Sound}

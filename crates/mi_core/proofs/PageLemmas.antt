@@ -14,7 +14,7 @@ use Rattle.mi_forest.specs.Changes.{SetsPage, with_entries}
 use Rattle.mi_core.specs.Pages.{ArePages, forest_of, node_or_fresh}
 use Rattle.mi_entries.specs.Actors.{Actor}
 use Rattle.mi_core.specs.State.{node_at}
-use Rattle.mi_core.specs.Boards.{BoardState}
+use Rattle.mi_board.specs.Boards.{BoardState}
 use Rattle.mi_core.proofs.ActorLemmas.{set_twice}
 use Rattle.mi_forest.proofs.EventLemmas.{filter_event, put_event}
 use Rattle.mi_forest.proofs.FlatLemmas.{leaf_entries}

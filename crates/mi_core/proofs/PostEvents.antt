@@ -7,7 +7,7 @@ use Rattle.mi_page.specs.Keys.{IsInside}
 use Rattle.mi_page.specs.Nodes.{Node, item_count}
 use Rattle.mi_page.specs.Routes.{has_route, route_cmp}
 use Rattle.mi_core.specs.Actors.{Suits}
-use Rattle.mi_core.specs.Boards.{floor_of}
+use Rattle.mi_board.specs.Boards.{floor_of}
 use Rattle.mi_core.specs.Effects.{paid}
 use Rattle.mi_core.specs.Events.{MayPost, after}
 use Rattle.mi_core.specs.Events.Event.{post}

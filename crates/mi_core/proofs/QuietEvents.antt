@@ -9,7 +9,7 @@ use Rattle.mi_base.specs.History.{IsPosition, at_position, entered, events_at}
 use Rattle.mi_core.specs.Actors.{Saw, Suits, pinned_at}
 use Rattle.mi_tree.specs.Births.{is_split_of, was_split}
 use Rattle.mi_core.specs.Claims.{HasHolder}
-use Rattle.mi_core.specs.Boards.{floor_of, BoardState}
+use Rattle.mi_board.specs.Boards.{floor_of, BoardState}
 use Rattle.mi_entries.specs.Records.{held_by, Rows, Shard, no_shard, shard_at}
 use Rattle.mi_core.specs.Effects.{looked, noted, saw}
 use Rattle.mi_core.specs.Events.{after}

@@ -27,7 +27,7 @@ use Rattle.mi_core.proofs.KeptLemmas.{floor_position}
 use Rattle.mi_forest.proofs.ListLemmas.{inside_in}
 use Rattle.mi_base.proofs.SortingLemmas.{filter_keeps, same_filter}
 use Rattle.mi_tree.proofs.ListLemmas.{all_any, filter_map, filter_same, filter_twice}
-use Rattle.mi_core.specs.Boards.{floor_of}
+use Rattle.mi_board.specs.Boards.{floor_of}
 use Rattle.mi_entries.proofs.MemberLemmas.{IsOne, all_one, filter_in, find_in, in_filter, map_in, one_at, pass_some, passing, some_pass}
 use Rattle.mi_base.specs.Configuration.{Configuration, space_of}
 use Rattle.mi_base.specs.Permutations.{begins, distances, key_distance, permutation_of}

@@ -8,8 +8,9 @@ use Rattle.mi_tree.specs.declared.outcomes.Leaf.{Leaf}
 use Rattle.mi_tree.specs.Cells.{same_cell}
 use Rattle.mi_tree.specs.Legal.{cells_of}
 use Rattle.mi_tree.proofs.LeafLemmas.{same_cell_is}
-use Rattle.mi_board.specs.Actors.{is_claim}
-use Rattle.mi_core.specs.Boards.{next_split, next_sweep, ActorState, idle}
+use Rattle.mi_board.specs.Actors.{is_claim, idle}
+use Rattle.mi_board.specs.Boards.{next_split, next_sweep}
+use Rattle.mi_board.specs.declared.actors.ActorState.{ActorState}
 use Rattle.mi_core.specs.Sound.{Sound}
 use Rattle.std.proofs.lemmas.Option.{none-some}
 use Rattle.mi_core.proofs.NextLemmas.{unclaimed_by}

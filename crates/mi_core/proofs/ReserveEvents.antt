@@ -5,7 +5,9 @@ use Rattle.std.specs.List.{find}
 use Rattle.std.proofs.lemmas.Bool.{cases_eq}
 use Rattle.mi_base.specs.History.{end_of, entered, events_at}
 use Rattle.mi_core.specs.Actors.{Suits}
-use Rattle.mi_core.specs.Boards.{floor_of, BoardState, ActorState, idle, with_actor, with_reserved}
+use Rattle.mi_board.specs.Boards.{floor_of, BoardState, with_actor}
+use Rattle.mi_board.specs.Actors.{idle, with_reserved}
+use Rattle.mi_board.specs.declared.actors.ActorState.{ActorState}
 use Rattle.mi_entries.specs.Records.{held_by, Rows, Shard, no_shard, shard_at}
 use Rattle.mi_core.specs.Effects.{looked}
 use Rattle.mi_core.specs.Events.{after}

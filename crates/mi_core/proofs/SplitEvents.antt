@@ -21,7 +21,9 @@ use Rattle.mi_tree.proofs.LegalLemmas.{all_may, updates_of_split, wanted}
 use Rattle.mi_core.specs.Actors.{Suits}
 use Rattle.mi_tree.specs.Births.{born, is_split_of, was_split}
 use Rattle.mi_core.specs.Claims.{AreRetired}
-use Rattle.mi_core.specs.Boards.{floor_of, BoardState, ActorState, idle, with_split}
+use Rattle.mi_board.specs.Boards.{floor_of, BoardState, with_split}
+use Rattle.mi_board.specs.Actors.{idle}
+use Rattle.mi_board.specs.declared.actors.ActorState.{ActorState}
 use Rattle.mi_entries.specs.Records.{record_of, home}
 use Rattle.mi_core.specs.Effects.{saw}
 use Rattle.mi_entries.specs.Entries.{HasPlace, born_in, depth_of, key_in, grid, counts, is_under, under}
@@ -37,7 +39,8 @@ use Rattle.mi_core.specs.State.{count_if, State, board_actor, put_actor, put_boa
 use Rattle.mi_entries.specs.Actors.{Actor, SplitWork}
 use Rattle.mi_core.proofs.ActorLemmas.{set_claim, claims_end, each_set, ends_split, held_by_all, holders_by, retired_by, sweeps_by}
 use Rattle.mi_entries.proofs.ContentLemmas.{HasSplit, counts_down, entries_publish, entries_rise, leaf_split}
-use Rattle.mi_core.proofs.FloorLemmas.{at_more, end_events, least_rises, least_same}
+use Rattle.mi_core.proofs.FloorLemmas.{least_rises, least_same}
+use Rattle.mi_board.proofs.FloorLemmas.{at_more, end_events}
 use Rattle.mi_core.proofs.KeptLemmas.{floor_position, on_board, saw_more}
 use Rattle.mi_entries.proofs.KeyedLemmas.{is_keyed}
 use Rattle.mi_core.proofs.PageLemmas.{forest_held}

@@ -15,7 +15,7 @@ use Rattle.mi_tree.proofs.LegalLemmas.{all_may}
 use Rattle.mi_core.specs.Actors.{Suits}
 use Rattle.mi_tree.specs.Births.{was_split}
 use Rattle.mi_core.specs.Claims.{AreRetired, SweepAlone}
-use Rattle.mi_core.specs.Boards.{floor_of}
+use Rattle.mi_board.specs.Boards.{floor_of}
 use Rattle.mi_entries.specs.Marks.{cell_end, cell_range, cell_start, mark_past, swept_on}
 use Rattle.mi_core.specs.Effects.{sweep_node}
 use Rattle.mi_entries.specs.Entries.{HasPlace, born_in, depth_of, key_down, key_in, grid, counts, is_under, IsUnswept, IsWorked, is_ahead, is_in, is_down}

@@ -11,7 +11,7 @@ use Rattle.mi_tree.specs.Cells.{Grid, same_cell}
 use Rattle.mi_core.specs.Actors.{Suits}
 use Rattle.mi_tree.specs.Births.{was_split, splits_in}
 use Rattle.mi_core.specs.Claims.{AreRetired, SweepAlone, last_of}
-use Rattle.mi_core.specs.Boards.{floor_of, BoardState}
+use Rattle.mi_board.specs.Boards.{floor_of, BoardState}
 use Rattle.mi_entries.specs.Marks.{cell_start}
 use Rattle.mi_core.specs.Effects.{looked}
 use Rattle.mi_entries.specs.Entries.{HasPlace, born_in, key_down, key_in, grid, is_under, IsUnswept, IsWorked, is_in, is_down}

@@ -10,7 +10,7 @@ use Rattle.mi_page.specs.Entries.{outlives}
 use Rattle.mi_page.specs.Nodes.{Node, in_range}
 use Rattle.mi_tree.proofs.LegalLemmas.{all_may}
 use Rattle.mi_core.specs.Actors.{Suits}
-use Rattle.mi_core.specs.Boards.{floor_of}
+use Rattle.mi_board.specs.Boards.{floor_of}
 use Rattle.mi_core.specs.Effects.{noted, trim_node}
 use Rattle.mi_core.specs.Events.{IsLeafPage, after}
 use Rattle.mi_core.specs.Events.Event.{trim}

@@ -16,7 +16,7 @@ use Rattle.mi_tree.specs.Cells.{Grid, AllMaySplit, MaySplit, same_cell}
 use Rattle.mi_tree.proofs.LeafLemmas.{leaf_apart, same_cell_is}
 use Rattle.mi_tree.proofs.LegalLemmas.{all_may}
 use Rattle.mi_core.specs.Actors.{Suits}
-use Rattle.mi_core.specs.Boards.{floor_of}
+use Rattle.mi_board.specs.Boards.{floor_of}
 use Rattle.mi_core.specs.Effects.{drop_entry}
 use Rattle.mi_entries.specs.Entries.{HasPlace, counts, depth_of, is_ahead, is_under, under, grid}
 use Rattle.mi_core.specs.Events.{IsLeafPage, after, copied_of, copied_to, with_split_at}

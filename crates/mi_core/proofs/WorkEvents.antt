@@ -14,7 +14,7 @@ use Rattle.mi_tree.specs.Cells.{Grid, AllMaySplit, is_leaf}
 use Rattle.mi_tree.specs.Legal.{MayFollow}
 use Rattle.mi_tree.proofs.LegalLemmas.{all_may, wanted}
 use Rattle.mi_core.specs.Actors.{Suits}
-use Rattle.mi_core.specs.Boards.{floor_of}
+use Rattle.mi_board.specs.Boards.{floor_of}
 use Rattle.mi_entries.specs.Marks.{begun, cell_start, split_or, gather_more}
 use Rattle.mi_entries.specs.Entries.{HasPlace, IsUnswept, IsWorked, counts, is_ahead, is_under, grid, born_in}
 use Rattle.mi_core.specs.Events.{after, leaf_or, with_split_at, IsLeafPage}

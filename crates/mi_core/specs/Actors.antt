@@ -8,7 +8,7 @@ use Rattle.mi_page.specs.Nodes.{Node}
 use Rattle.mi_tree.specs.Cells.{is_leaf}
 use Rattle.mi_tree.specs.Legal.{cells_of}
 use Rattle.mi_tree.specs.Births.{was_split}
-use Rattle.mi_core.specs.Boards.{floor_of, BoardState}
+use Rattle.mi_board.specs.Boards.{floor_of, BoardState}
 use Rattle.mi_entries.specs.Actors.{Actor, Pin, SplitWork, SweepWork}
 use Rattle.mi_core.specs.State.{board_actor, node_at}
 use Rattle.mi_entries.specs.Records.{Shard, shard_at}

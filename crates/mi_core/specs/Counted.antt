@@ -12,7 +12,7 @@ use Rattle.mi_tree.specs.Counting.{belongs}
 use Rattle.mi_core.specs.Events.{Can, Event, after, copied_of}
 use Rattle.mi_core.specs.Kept.{Kept}
 use Rattle.mi_entries.specs.Actors.{Actor}
-use Rattle.mi_core.specs.Boards.{BoardState}
+use Rattle.mi_board.specs.Boards.{BoardState}
 use Rattle.mi_core.specs.State.{State}
 use Rattle.mi_entries.specs.Entries.{grid}
 

@@ -10,7 +10,8 @@ use Rattle.mi_page.specs.Entries.{entry_cmp, without_interval, without_dead, wit
 use Rattle.mi_page.specs.Nodes.{Node}
 use Rattle.mi_page.specs.Routes.{has_route, route_cmp}
 use Rattle.mi_forest.specs.Changes.{with_entries}
-use Rattle.mi_core.specs.Boards.{BoardState, floor_of, with_event, with_reserved}
+use Rattle.mi_board.specs.Boards.{BoardState, floor_of, with_event}
+use Rattle.mi_board.specs.Actors.{with_reserved}
 use Rattle.mi_entries.specs.Actors.{Actor, Owed}
 
 -- boards

@@ -1,5 +1,5 @@
 -- The events: one section of one actor each. An event tells the page, the shard and whatever else its actor has in hand.
-use Rattle.std.specs.Prelude.{◌≡◌, ◌≢◌, ◌≤◌, ◌<◌, ℕ, ◌+◌, ◌-◌, ◌==◌, ◌&&◌, List, [], ◌∷◌, ◌++◌, Bool, true, false, cond, length, drop, IsTrue, Option, Some, None, replicate, slice_get, slice_set, max}
+use Rattle.std.specs.Prelude.{◌≡◌, ◌≢◌, ◌≤◌, ◌<◌, ℕ, ◌+◌, ◌-◌, ◌==◌, List, [], ◌∷◌, ◌++◌, Bool, true, false, cond, length, drop, IsTrue, Option, Some, None, replicate, slice_get, slice_set, max}
 use Rattle.std.specs.List.{find, list_any}
 use Rattle.mi_base.specs.declared.records.LogEvent.TheVariants.{Split}
 use Rattle.mi_base.specs.declared.records.Position.{Position}
@@ -13,13 +13,13 @@ use Rattle.mi_page.specs.Keys.{IsInside}
 use Rattle.mi_page.specs.Nodes.{Node, fresh_node, item_count, lower_half, middle_key, root_node, upper_half}
 use Rattle.mi_tree.specs.declared.outcomes.Leaf.{Leaf}
 use Rattle.mi_tree.specs.Cells.{same_cell}
-use Rattle.mi_tree.specs.Counting.{is_crowded}
 use Rattle.mi_tree.specs.Legal.{MayFollow, cells_of}
 use Rattle.mi_entries.specs.Marks.{cell_end, cell_range, gather_more, split_or, swept_on}
 use Rattle.mi_core.specs.Effects.{trim_leaf, committed, drop_entry, looked, mark_entry, noted, paid, post_route, put_entry, saw, sweep_node, trim_node, with_update}
 use Rattle.mi_entries.specs.Records.{held_by, with_record, without_id, Rows, ShardRecord, home, no_shard, shard_at}
 use Rattle.mi_entries.specs.Entries.{IsNewEntry, record_key, grid}
-use Rattle.mi_core.specs.Boards.{BoardState, given_up, gone, grown, idle, is_claimed, next_split, next_sweep, opened_board, pinned, with_actor, with_claim, with_more, with_reserved, with_split, without_claim, without_pin}
+use Rattle.mi_board.specs.Boards.{HasRoom, crowded_at, BoardState, given_up, grown, next_split, next_sweep, opened_board, pinned, with_actor, with_more, with_split}
+use Rattle.mi_board.specs.Actors.{gone, idle, is_claimed, with_claim, with_reserved, without_claim, without_pin}
 use Rattle.mi_core.specs.Refusals.{Because, Refusal}
 use Rattle.mi_entries.specs.Splits.{copy_in_child}
 use Rattle.mi_core.specs.State.{State, node_at, put_actor, put_board, put_page, put_shard}
@@ -100,7 +100,7 @@ pub record MayUpdate (s : State) (r : Actor) (leaf : List ℕ) (id page : ℕ) (
   pub whole : r.split ≡ None
   pub claim : r.claim ≡ Some leaf
   pub under : begins leaf perm ≡ true
-  pub few : length (updates_of s.board.log) < s.board.settings.updates
+  pub few : HasRoom s.board
   pub page_is : IsLeafPage s page node
   pub inside : IsInside node.low node.high key
 
@@ -110,7 +110,7 @@ pub record CanInsert (s : State) (r : Actor) (id page : ℕ) (node : Node) (kept
   pub may : MayUpdate s r leaf id page node kept ((grid s.board.settings).perm e.vector) e.key
   pub new : IsNewEntry s.board.settings s.board.log leaf id e
   pub absent : find (λ x. x.id == id) kept.records ≡ None
-  pub calm : list_any (λ leaf. begins leaf.prefix ((grid s.board.settings).perm e.vector) && is_crowded s.board.settings.levels s.board.settings.cell leaf) (cells_of s.board.settings s.board.log) ≡ false
+  pub calm : crowded_at s.board ((grid s.board.settings).perm e.vector) ≡ false
   pub space : length (without_dead r.floor.updates node.entries) < 32
 
 -- the shard has the identifier's record, and the page's range has the key that it tells
@@ -149,7 +149,7 @@ Can s a r (miss_shard k) = (k < 16) × (r.shard ≡ None) × (b : ℕ) × ((shar
 Can s a r (claim_shard k kept) = (k < 16) × (r.shard ≡ None) × ((shard_at s.shards k).rows ≡ kept) × ((shard_at s.shards k).holder ≡ None)
 Can s a r (release_shard k kept) = (r.shard ≡ Some k) × ((shard_at s.shards k).rows ≡ kept)
 Can s a r (reserve k kept room) =
-    (r.shard ≡ Some k) × ((shard_at s.shards k).rows ≡ kept) × (length kept.records < room) × (length (updates_of s.board.log) < s.board.settings.updates)
+    (r.shard ≡ Some k) × ((shard_at s.shards k).rows ≡ kept) × (length kept.records < room) × HasRoom s.board
 Can s a r pin = r.pin ≡ None
 Can s a r unpin = (p : Pin) × (r.pin ≡ Some p)
 Can s a r (claim_leaf p) = MayClaim s r p

@@ -1,4 +1,3 @@
-pub mod Boards
 pub mod State
 pub mod Pages
 pub mod Claims

@@ -2,7 +2,7 @@
 use Rattle.std.specs.Prelude.{◌≡◌, ◌≤◌, ℕ, ◌==◌, List, ◌∷◌, Bool, false, length, Option, Some, None}
 use Rattle.mi_page.specs.Nodes.{Node, fresh_node}
 use Rattle.mi_forest.specs.Forests.{Forest, IsForest, IsLinked}
-use Rattle.mi_core.specs.Boards.{BoardState}
+use Rattle.mi_board.specs.Boards.{BoardState}
 use Rattle.mi_core.specs.State.{count_if, node_at}
 use Rattle.mi_entries.specs.Actors.{Actor}
 

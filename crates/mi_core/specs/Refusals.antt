@@ -1,14 +1,10 @@
 -- Why a call was refused, as the board or a page has it.
-use Rattle.std.specs.Prelude.{◌≡◌, ◌≢◌, ◌≤◌, ℕ, ℤ, ◌&&◌, List, true, length, Some}
-use Rattle.std.specs.List.{list_any}
+use Rattle.std.specs.Prelude.{◌≡◌, ◌≢◌, ◌≤◌, ℕ, ℤ, List, true, length, Some}
 use Rattle.mi_base.specs.History.{updates_of}
-use Rattle.mi_base.specs.Permutations.{begins}
 use Rattle.mi_page.specs.Nodes.{Node, item_count}
-use Rattle.mi_tree.specs.Counting.{is_crowded}
-use Rattle.mi_tree.specs.Legal.{cells_of}
 use Rattle.mi_core.specs.Effects.{trim_leaf}
 use Rattle.mi_entries.specs.Actors.{Actor}
-use Rattle.mi_core.specs.Boards.{BoardState}
+use Rattle.mi_board.specs.Boards.{BoardState, crowded_at}
 use Rattle.mi_core.specs.State.{State, board_actor, node_at}
 use Rattle.mi_entries.specs.Entries.{grid}
 
@@ -20,14 +16,6 @@ pub data Refusal : Type 0 where
   held : (leaf : List ℕ) (by : ℕ) → Refusal
   page_full : (page : ℕ) → Refusal
   grown : (level : ℕ) → Refusal
-
--- the updates number the limit
-abbrev pub IsFull : BoardState → Type 0
-IsFull b = length (updates_of b.log) ≡ b.settings.updates
-
--- the vector's leaf holds four times the cell size, and may be split
-abbrev pub IsCrowded : BoardState → List ℤ → Type 0
-IsCrowded b vector = list_any (λ leaf. begins leaf.prefix ((grid b.settings).perm vector) && is_crowded b.settings.levels b.settings.cell leaf) (cells_of b.settings b.log) ≡ true
 
 -- another actor claims the leaf
 pub record IsHeld (b : BoardState) (a : ℕ) (leaf : List ℕ) (by : ℕ) : Type 0 where
@@ -42,8 +30,8 @@ pub record IsPageFull (s : State) (floor page : ℕ) : Type 0 where
 
 -- the cause of each; grown where the root is at least at that level already
 abbrev pub Because : State → ℕ → Actor → Refusal → Type 0
-Because s a r full = IsFull s.board
-Because s a r (crowded vector) = IsCrowded s.board vector
+Because s a r full = length (updates_of s.board.log) ≡ s.board.settings.updates
+Because s a r (crowded vector) = crowded_at s.board ((grid s.board.settings).perm vector) ≡ true
 Because s a r pages_full = s.board.allotted ≡ s.board.settings.pages
 Because s a r (held leaf by) = IsHeld s.board a leaf by
 Because s a r (page_full page) = IsPageFull s r.floor.updates page

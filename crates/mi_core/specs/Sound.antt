@@ -8,7 +8,7 @@ use Rattle.mi_tree.specs.Births.{splits_in}
 use Rattle.mi_tree.specs.Legal.{LegalLog}
 use Rattle.mi_core.specs.Actors.{Suits}
 use Rattle.mi_core.specs.Claims.{last_of, AreRetired, ClaimAlone, HasHolder, SweepAlone}
-use Rattle.mi_core.specs.Boards.{floor_of}
+use Rattle.mi_board.specs.Boards.{floor_of}
 use Rattle.mi_entries.specs.Records.{HasRecords, shard_at}
 use Rattle.mi_forest.specs.Forests.{all_entries}
 use Rattle.mi_core.specs.Pages.{ArePages, forest_of}

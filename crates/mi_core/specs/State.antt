@@ -3,7 +3,9 @@ use Rattle.mi_entries.specs.Actors.{Actor}
 use Rattle.mi_entries.specs.Records.{Shard}
 use Rattle.std.specs.Prelude.{ℕ, ◌+◌, List, [], ◌∷◌, Bool, cond, Option, Some, None, slice_index_or, slice_set}
 use Rattle.mi_page.specs.Nodes.{Node}
-use Rattle.mi_core.specs.Boards.{ActorState, BoardState, actor_at}
+use Rattle.mi_board.specs.Boards.{BoardState}
+use Rattle.mi_board.specs.Actors.{actor_at}
+use Rattle.mi_board.specs.declared.actors.ActorState.{ActorState}
 
 -- what all actors share, and what is known of each; a page that isn't linked is None: it is fresh, wherever it is
 pub record State : Type 0 where

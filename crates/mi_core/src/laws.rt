@@ -6,7 +6,7 @@ ghost use Rattle.mi_base.specs.declared.records.Update.TheVariants.{Delete, Inse
 ghost use Rattle.mi_base.specs.History.{updates_of};
 ghost use Rattle.mi_tree.specs.declared.outcomes.Leaf.{Leaf};
 ghost use Rattle.mi_tree.specs.Legal.{MayFollow};
-ghost use Rattle.mi_core.specs.Boards.{next_split};
+ghost use Rattle.mi_board.specs.Boards.{next_split};
 ghost use Rattle.mi_base.specs.Configuration.{Configuration, IsWithinLimits, metric_space};
 ghost use Rattle.mi_base.specs.Space.{IsMetric};
 ghost use Rattle.mi_entries.specs.Actors.{Actor};

@@ -9,7 +9,7 @@ ghost use Rattle.mi_page.specs.Nodes.{Node, in_range};
 ghost use Rattle.mi_page.specs.Routes.{IsChild};
 ghost use Rattle.mi_tree.specs.Births.{Born, born, living};
 ghost use Rattle.mi_entries.specs.Entries.{born_in, counts, grid};
-ghost use Rattle.mi_core.specs.Boards.{floor_of};
+ghost use Rattle.mi_board.specs.Boards.{floor_of};
 ghost use Rattle.mi_core.specs.Debts.{Linked};
 ghost use Rattle.mi_core.specs.Kept.{Kept};
 ghost use Rattle.mi_core.specs.Named.{EntryOf, IsNamed, place_in};

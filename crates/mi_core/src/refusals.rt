@@ -9,6 +9,7 @@ ghost use Rattle.mi_page.specs.Nodes.{Node, item_count};
 ghost use Rattle.mi_tree.specs.Cells.{same_cell};
 ghost use Rattle.mi_tree.specs.Counting.{is_crowded};
 ghost use Rattle.mi_tree.specs.Legal.{cells_of};
+ghost use Rattle.mi_board.specs.Boards.{HasRoom, crowded_at};
 ghost use Rattle.mi_entries.specs.Actors.{Actor};
 ghost use Rattle.mi_entries.specs.Entries.{grid};
 ghost use Rattle.mi_entries.specs.Records.{Rows};
@@ -33,9 +34,9 @@ pub fn refusals_exclude()
 
 /// Where there is none, what the event needs of the board and the page holds.
 pub fn refusals_or_events()
-    ensures full { (s : State) → Kept s → (a : ℕ) (r : Actor) → slice_get s.actors a ≡ Some r → (length (updates_of s.board.log) < s.board.settings.updates) ⊎ Because s a r full }
+    ensures full { (s : State) → Kept s → (a : ℕ) (r : Actor) → slice_get s.actors a ≡ Some r → HasRoom s.board ⊎ Because s a r full }
     ensures crowded { (s : State) → Kept s → (a : ℕ) (r : Actor) → slice_get s.actors a ≡ Some r → (vector : List ℤ)
-        → (list_any (λ leaf. begins leaf.prefix ((grid s.board.settings).perm vector) && is_crowded s.board.settings.levels s.board.settings.cell leaf) (cells_of s.board.settings s.board.log) ≡ false) ⊎ Because s a r (crowded vector) }
+        → (crowded_at s.board ((grid s.board.settings).perm vector) ≡ false) ⊎ Because s a r (crowded vector) }
     ensures pages { (s : State) → Kept s → (a : ℕ) (r : Actor) → slice_get s.actors a ≡ Some r → (s.board.allotted < s.board.settings.pages) ⊎ Because s a r pages_full }
     ensures claim { (s : State) → Kept s → (a : ℕ) (r : Actor) → slice_get s.actors a ≡ Some r → (leaf : List ℕ) → IsFree r
         → IsTrue (list_any (λ l. same_cell leaf l.prefix) (cells_of s.board.settings s.board.log)) → MayClaim s r leaf ⊎ ((b : ℕ) × Because s a r (held leaf b)) }
