@@ -50,6 +50,10 @@ fn copy<L: Ledger>(alloc: Global, blank: Blank, catalog: &Catalog) -> Result<Cat
     catalog.copy(alloc, &mut Steps::<L>::new(blank))
 }
 
+fn copied(alloc: Global, catalog: &Catalog) -> Result<Catalog, NoMemory> {
+    copy::<Brand>(alloc, Blank::new(1), catalog)
+}
+
 #[test]
 fn a_split_leaves_the_live_objects_in_the_children(rt: HostRuntime) -> Result<(), Fail> {
     let near = Perm::new(&[0, 1]).ok_or("near")?;
@@ -62,7 +66,7 @@ fn a_split_leaves_the_live_objects_in_the_children(rt: HostRuntime) -> Result<()
     remove(&mut catalog, &near);
     remove(&mut catalog, &far);
     let zero = Prefix::of(&near, 1);
-    let earlier = copy::<Brand>(rt.alloc(), Blank::new(1), &catalog)?;
+    let earlier = copied(rt.alloc(), &catalog)?;
     let objects = [Placed {
         perm: Perm::new(&[0, 1]).ok_or("near")?,
         distance: 4,
