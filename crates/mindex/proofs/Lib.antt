@@ -1,2 +1,3 @@
 pub mod CallLemmas
 pub mod LoadingLemmas
+pub mod MeaningLemmas

@@ -8,6 +8,7 @@ ghost use Rattle.mindex.specs.Calls.{Answered, Completes};
 ghost use Rattle.mindex.specs.Inputs.{names_in};
 
 mod adapters;
+mod laws;
 mod loading;
 mod refusals;
 mod replaying;
@@ -17,6 +18,7 @@ mod tests;
 mod texts;
 
 use adapters::{RealFiles, RealOut};
+pub use laws::one_text_has_one_history;
 use mi_outside::{Files, Gate, OpenGate, Sink};
 use refusals::Stop;
 use replaying::{replay_call, stopped};

@@ -11,9 +11,9 @@ use mi_base::MAX_FILE_SIZE;
 use mi_outside::{Files, MemoryFiles, MemorySink, OpenGate, Sink, SteadyFiles, SteadySink};
 use std::alloc::Global;
 use std::collections::BTreeMap;
-use std::fs;
-use std::process::Abort;
+use std::process::{self, Abort};
 use std::test::Fail;
+use std::{env, fs};
 
 const PLANE: &[u8] = b"metric,l1\ndims,2\nlevels,0\ncell,4\nupdates,8\npages,4\n";
 
@@ -50,32 +50,13 @@ pub fn replay_words(alloc: Global) -> Result<Vec<String>, Fail> {
     words_of(alloc, &["replay", "settings", "schedule", "script"])
 }
 
-/// Updates and queries under L1 without pivots: settings, script and transcript.
-static PLANE_CASES: [(&[u8], &str, &str); 9] = [
+/// Settings, script and transcript: no operation, refused deletes and inserts, a full log, and leaves that are split.
+static TRANSCRIPTS: [(&[u8], &str, &str); 5] = [
+    // under L1 without pivots
     (
         PLANE,
         "",
         "session,0\nhistory,0,0\ncells,1\n-,0\nentries,0\npages,1,4\n",
-    ),
-    (
-        PLANE,
-        "insert,7,0,0\ninsert,9,3,4\nrange,6,0,0\n",
-        "session,0\nstored,1\nstored,2\nrange,2,0,1,1,2\n0,7\nhistory,2,0\ninsert,0,1,7,0,0\ninsert,0,2,9,3,4\ncells,1\n-,2\nentries,2\npages,1,4\n",
-    ),
-    (
-        PLANE,
-        "insert,7,0,0\ninsert,9,3,4\nrange,7,0,0\n",
-        NEAR_TEXT,
-    ),
-    (
-        PLANE,
-        "range,5,0,0\ninsert,7,0,0\nrange,0,0,0\n",
-        "session,0\nrange,0,0,0,0,0\nstored,1\nrange,1,0,1,1,1\n0,7\nhistory,1,0\ninsert,0,2,7,0,0\ncells,1\n-,1\nentries,1\npages,1,4\n",
-    ),
-    (
-        PLANE,
-        "insert,7,0,0\ninsert,7,1,1\nrange,0,0,0\n",
-        "session,0\nstored,1\npresent,1,0\nrange,1,0,1,1,1\n0,7\nhistory,1,0\ninsert,0,1,7,0,0\ncells,1\n-,1\nentries,1\npages,1,4\n",
     ),
     (
         PLANE,
@@ -87,68 +68,13 @@ static PLANE_CASES: [(&[u8], &str, &str); 9] = [
         "insert,1,0,0\ninsert,2,1,0\ninsert,3,2,0\ndelete,9\ndelete,1\nrange,0,1,0\n",
         "session,0\nstored,1\nstored,2\nfull,2\nabsent,2,0\nfull,2\nrange,2,0,1,1,2\n0,2\nhistory,2,0\ninsert,0,1,1,0,0\ninsert,0,2,2,1,0\ncells,1\n-,2\nentries,2\npages,1,4\n",
     ),
-    (
-        PLANE,
-        "\"insert\",7,+0,-00\r\n\r\nrange,2147483647,1,1",
-        "session,0\nstored,1\nrange,1,0,1,1,1\n2,7\nhistory,1,0\ninsert,0,1,7,0,0\ncells,1\n-,1\nentries,1\npages,1,4\n",
-    ),
-    (
-        PLANE,
-        "insert,3,0,-1\ninsert,1,-1,0\nrange,1,0,0\n",
-        "session,0\nstored,1\nstored,2\nrange,2,0,2,1,2\n1,1\n1,3\nhistory,2,0\ninsert,0,1,3,0,-1\ninsert,0,2,1,-1,0\ncells,1\n-,2\nentries,2\npages,1,4\n",
-    ),
-];
-
-/// The same under the other metrics.
-static METRIC_CASES: [(&[u8], &str, &str); 3] = [
-    (
-        b"metric,max\ndims,2\nlevels,0\ncell,4\nupdates,8\npages,4\n",
-        "insert,7,0,0\ninsert,9,3,4\nrange,4,0,0\n",
-        "session,0\nstored,1\nstored,2\nrange,2,0,2,1,2\n0,7\n4,9\nhistory,2,0\ninsert,0,1,7,0,0\ninsert,0,2,9,3,4\ncells,1\n-,2\nentries,2\npages,1,4\n",
-    ),
-    (
-        b"metric,hamming\ndims,2\nlevels,0\ncell,4\nupdates,8\npages,4\n",
-        "insert,7,0,0\ninsert,9,3,4\nrange,1,0,0\n",
-        "session,0\nstored,1\nstored,2\nrange,2,0,1,1,2\n0,7\nhistory,2,0\ninsert,0,1,7,0,0\ninsert,0,2,9,3,4\ncells,1\n-,2\nentries,2\npages,1,4\n",
-    ),
-    (
-        b"metric,table\ndims,1\nrow,0,1,2\nrow,1,0,1\nrow,2,1,0\nlevels,0\ncell,4\nupdates,8\npages,4\n",
-        "insert,1,0\ninsert,2,2\nrange,1,1\n",
-        "session,0\nstored,1\nstored,2\nrange,2,0,2,1,2\n1,1\n1,2\nhistory,2,0\ninsert,0,1,1,0\ninsert,0,2,2,2\ncells,1\n-,2\nentries,2\npages,1,4\n",
-    ),
-];
-
-/// Updates under pivots: leaves that are empty, that the splitter splits, and that an insert splits.
-static PIVOT_CASES: [(&[u8], &str, &str); 3] = [
-    (
-        b"metric,l1\ndims,1\npivot,0\npivot,10\nlevels,2\ncell,4\nupdates,64\npages,40\n",
-        "insert,5,5\n",
-        "session,0\nstored,1\nhistory,1,0\ninsert,0,1,5,5\ncells,2\n0,1\n1,0\nentries,1\npages,1,40\n",
-    ),
-    (
-        b"metric,l1\ndims,1\npivot,0\npivot,10\npivot,20\nlevels,3\ncell,1\nupdates,64\npages,40\n",
-        "insert,1,1\ninsert,2,2\ninsert,3,3\n",
-        "session,0\nstored,1\nstored,2\nstored,3\nhistory,3,2\ninsert,0,1,1,1\ninsert,0,2,2,2\nsplit,0\ninsert,0,3,3,3\nsplit,0.1\ncells,4\n0.1.2,3\n0.2,0\n1,0\n2,0\nentries,3\npages,1,40\n",
-    ),
+    // leaves that are empty, and that are split
     (
         b"metric,l1\ndims,1\npivot,0\npivot,10\npivot,20\npivot,30\nlevels,4\ncell,1\nupdates,64\npages,40\n",
         "insert,1,1\ninsert,2,2\ninsert,3,3\ninsert,4,4\ninsert,5,0\n",
         "session,0\nstored,1\nstored,2\nstored,3\nstored,4\nstored,5\nhistory,5,3\ninsert,0,1,1,1\ninsert,0,2,2,2\nsplit,0\ninsert,0,3,3,3\ninsert,0,4,4,4\nsplit,0.1\nsplit,0.1.2\ninsert,0,5,5,0\ncells,7\n0.1.2.3,5\n0.1.3,0\n0.2,0\n0.3,0\n1,0\n2,0\n3,0\nentries,5\npages,1,40\n",
     ),
-];
-
-/// Queries under pivots: a leaf that passes and one that doesn't, an object that the filter leaves out, and leaves that were split.
-static QUERY_CASES: [(&[u8], &str, &str); 3] = [
-    (
-        b"metric,l1\ndims,1\npivot,0\npivot,10\nlevels,2\ncell,4\nupdates,64\npages,40\n",
-        "insert,1,18\nrange,3,2\nrange,2,2\n",
-        "session,0\nstored,1\nrange,1,0,0,1,2\nrange,1,0,0,0,2\nhistory,1,0\ninsert,0,1,1,18\ncells,2\n0,0\n1,1\nentries,1\npages,1,40\n",
-    ),
-    (
-        b"metric,l1\ndims,1\npivot,0\npivot,10\nlevels,2\ncell,4\nupdates,64\npages,40\n",
-        "insert,1,1\ninsert,2,2\ninsert,3,3\ninsert,4,4\ninsert,9,9\nrange,1,2\n",
-        "session,0\nstored,1\nstored,2\nstored,3\nstored,4\nstored,5\nrange,5,0,3,1,5\n0,2\n1,1\n1,3\nhistory,5,0\ninsert,0,1,1,1\ninsert,0,2,2,2\ninsert,0,3,3,3\ninsert,0,4,4,4\ninsert,0,5,9,9\ncells,2\n0,4\n1,1\nentries,5\npages,1,40\n",
-    ),
+    // queries under pivots
     (
         b"metric,l1\ndims,1\npivot,0\npivot,10\nlevels,2\ncell,2\nupdates,64\npages,40\n",
         "insert,1,1\ninsert,2,2\ninsert,3,3\nrange,5,2\ndelete,2\nrange,1,2\n",
@@ -156,52 +82,114 @@ static QUERY_CASES: [(&[u8], &str, &str); 3] = [
     ),
 ];
 
-/// The script gives this transcript, with status 0.
-fn check_transcript(
+/// Settings, script and the lines of the replies, up to the history.
+static REPLIES: [(&[u8], &str, &str); 12] = [
+    // under L1 without pivots
+    (
+        PLANE,
+        "insert,7,0,0\ninsert,9,3,4\nrange,6,0,0\n",
+        "session,0\nstored,1\nstored,2\nrange,2,0,1,1,2\n0,7\nhistory,",
+    ),
+    (
+        PLANE,
+        "range,5,0,0\ninsert,7,0,0\nrange,0,0,0\n",
+        "session,0\nrange,0,0,0,0,0\nstored,1\nrange,1,0,1,1,1\n0,7\nhistory,",
+    ),
+    (
+        PLANE,
+        "insert,7,0,0\ninsert,7,1,1\nrange,0,0,0\n",
+        "session,0\nstored,1\npresent,1,0\nrange,1,0,1,1,1\n0,7\nhistory,",
+    ),
+    (
+        PLANE,
+        "\"insert\",7,+0,-00\r\n\r\nrange,2147483647,1,1",
+        "session,0\nstored,1\nrange,1,0,1,1,1\n2,7\nhistory,",
+    ),
+    (
+        PLANE,
+        "insert,3,0,-1\ninsert,1,-1,0\nrange,1,0,0\n",
+        "session,0\nstored,1\nstored,2\nrange,2,0,2,1,2\n1,1\n1,3\nhistory,",
+    ),
+    // under the other metrics
+    (
+        b"metric,max\ndims,2\nlevels,0\ncell,4\nupdates,8\npages,4\n",
+        "insert,7,0,0\ninsert,9,3,4\nrange,4,0,0\n",
+        "session,0\nstored,1\nstored,2\nrange,2,0,2,1,2\n0,7\n4,9\nhistory,",
+    ),
+    (
+        b"metric,hamming\ndims,2\nlevels,0\ncell,4\nupdates,8\npages,4\n",
+        "insert,7,0,0\ninsert,9,3,4\nrange,1,0,0\n",
+        "session,0\nstored,1\nstored,2\nrange,2,0,1,1,2\n0,7\nhistory,",
+    ),
+    (
+        b"metric,table\ndims,1\nrow,0,1,2\nrow,1,0,1\nrow,2,1,0\nlevels,0\ncell,4\nupdates,8\npages,4\n",
+        "insert,1,0\ninsert,2,2\nrange,1,1\n",
+        "session,0\nstored,1\nstored,2\nrange,2,0,2,1,2\n1,1\n1,2\nhistory,",
+    ),
+    // leaves that are empty, and that are split
+    (
+        b"metric,l1\ndims,1\npivot,0\npivot,10\nlevels,2\ncell,4\nupdates,64\npages,40\n",
+        "insert,5,5\n",
+        "session,0\nstored,1\nhistory,",
+    ),
+    (
+        b"metric,l1\ndims,1\npivot,0\npivot,10\npivot,20\nlevels,3\ncell,1\nupdates,64\npages,40\n",
+        "insert,1,1\ninsert,2,2\ninsert,3,3\n",
+        "session,0\nstored,1\nstored,2\nstored,3\nhistory,",
+    ),
+    // queries under pivots
+    (
+        b"metric,l1\ndims,1\npivot,0\npivot,10\nlevels,2\ncell,4\nupdates,64\npages,40\n",
+        "insert,1,18\nrange,3,2\nrange,2,2\n",
+        "session,0\nstored,1\nrange,1,0,0,1,2\nrange,1,0,0,0,2\nhistory,",
+    ),
+    (
+        b"metric,l1\ndims,1\npivot,0\npivot,10\nlevels,2\ncell,4\nupdates,64\npages,40\n",
+        "insert,1,1\ninsert,2,2\ninsert,3,3\ninsert,4,4\ninsert,9,9\nrange,1,2\n",
+        "session,0\nstored,1\nstored,2\nstored,3\nstored,4\nstored,5\nrange,5,0,3,1,5\n0,2\n1,1\n1,3\nhistory,",
+    ),
+];
+
+/// The text of a script that is replayed with status 0.
+fn check_replay(
     rt: &impl Abort,
     alloc: Global,
     settings: &[u8],
     script: &str,
-    text: &str,
-) -> Result<(), Fail> {
+) -> Result<MemorySink, Fail> {
     let words = replay_words(alloc)?;
     let mut files = files_of(alloc, settings, b"", script.as_bytes(), &[])?;
     let mut out = MemorySink::new(alloc, 1000, &[], 10_000)?;
     let status = replay_call(alloc, words.as_slice(), &mut files, &mut out);
     assert_eq!(rt; status, 0, "{script}");
-    assert_eq!(rt; out.bytes(), text.as_bytes(), "{script}");
+    Ok(out)
+}
+
+#[test]
+fn scripts_have_their_transcripts(rt: HostRuntime) -> Result<(), Fail> {
+    for (settings, script, text) in &TRANSCRIPTS {
+        let out = check_replay(&rt, rt.alloc(), settings, script)?;
+        assert_eq!(rt; out.bytes(), text.as_bytes(), "{script}");
+    }
     Ok(())
 }
 
-fn check_transcripts(
+/// Each script gives these replies, with status 0.
+fn check_replies(
     rt: &impl Abort,
     alloc: Global,
     cases: &[(&[u8], &str, &str)],
 ) -> Result<(), Fail> {
-    for (settings, script, text) in cases {
-        check_transcript(rt, alloc, settings, script, text)?;
+    for (settings, script, replies) in cases {
+        let out = check_replay(rt, alloc, settings, script)?;
+        assert!(rt; out.bytes().starts_with(replies.as_bytes()), "{script}");
     }
     Ok(())
 }
 
 #[test]
-fn scripts_have_their_transcripts(rt: HostRuntime) -> Result<(), Fail> {
-    check_transcripts(&rt, rt.alloc(), &PLANE_CASES)
-}
-
-#[test]
-fn each_metric_has_its_transcript(rt: HostRuntime) -> Result<(), Fail> {
-    check_transcripts(&rt, rt.alloc(), &METRIC_CASES)
-}
-
-#[test]
-fn leaves_are_split_by_the_splitter_and_by_inserts(rt: HostRuntime) -> Result<(), Fail> {
-    check_transcripts(&rt, rt.alloc(), &PIVOT_CASES)
-}
-
-#[test]
-fn queries_under_pivots_are_answered_at_their_cost(rt: HostRuntime) -> Result<(), Fail> {
-    check_transcripts(&rt, rt.alloc(), &QUERY_CASES)
+fn scripts_have_their_replies(rt: HostRuntime) -> Result<(), Fail> {
+    check_replies(&rt, rt.alloc(), &REPLIES)
 }
 
 /// So many coordinates after commas.
@@ -236,13 +224,9 @@ fn the_greatest_distance_and_identifier_are_answered(rt: HostRuntime) -> Result<
         "session,0\nstored,1\nrange,1,0,1,1,2\n0,1099511627775\nhistory,1,0\ninsert,0,1,1099511627775";
     let end = "\ncells,1\n0,1\nentries,1\npages,1,4\n";
     let text = between(alloc, replies, near.as_str(), end)?;
-    check_transcript(
-        &rt,
-        alloc,
-        settings.as_bytes(),
-        script.as_str(),
-        text.as_str(),
-    )
+    let out = check_replay(&rt, alloc, settings.as_bytes(), script.as_str())?;
+    assert_eq!(rt; out.bytes(), text.as_bytes());
+    Ok(())
 }
 
 #[test]
@@ -724,18 +708,27 @@ fn replies_are_those_of_a_scan_by_hand(rt: HostRuntime) -> Result<(), Fail> {
     Ok(())
 }
 
+/// A name in the folder for temporary files that no other process takes.
+fn temporary_name(rt: &HostRuntime, word: &str) -> Result<String, Fail> {
+    let folder = env::temp_dir(rt)?;
+    let folder = folder.to_string_lossy();
+    let process = process::id(rt.process());
+    Ok(format!(in rt.alloc(); "{folder}/mindex_{process}_{word}")?)
+}
+
 #[test]
 fn real_files_are_read_and_real_output_is_written(rt: HostRuntime) -> Result<(), Fail> {
     let alloc = rt.alloc();
-    let name = "/tmp/mindex_real_adapters.csv";
-    fs::write(&rt, name, NEAR)?;
+    let name = temporary_name(&rt, "read")?;
+    let missing = temporary_name(&rt, "missing")?;
+    fs::write(&rt, name.as_str(), NEAR)?;
     let mut files = RealFiles::new(&rt);
     let mut bytes = Vec::new(alloc);
-    assert!(rt; files.read(name, &mut bytes).is_ok());
+    assert!(rt; files.read(name.as_str(), &mut bytes).is_ok());
     assert_eq!(rt; bytes.as_slice(), NEAR);
-    assert!(rt; files.read("/tmp/mindex_no_such_file", &mut bytes).is_err());
+    assert!(rt; files.read(missing.as_str(), &mut bytes).is_err());
     let mut out = RealOut::new(Vec::new(alloc));
     assert_eq!(rt; out.write(b"pages").ok(), Some(5));
-    fs::remove_file(&rt, name)?;
+    fs::remove_file(&rt, name.as_str())?;
     Ok(())
 }
