@@ -1,3 +1,4 @@
 pub mod EndLemmas
-pub mod ReplyLemmas
 pub mod GainedLemmas
+pub mod ReplyLemmas
+pub mod StepLemmas

@@ -123,6 +123,7 @@ take_refused m is query fq w steps o fo me f =
       same_dists = refl;
       same_count = refl;
       rows_are = λ before e. farther_out w before found.0 row e found.1 found.2;
+      onward = omega arith;
       ticks = omega arith;
     }
 
@@ -133,5 +134,6 @@ take_kept m query w v steps new_steps o row is d c r t = record {
   same_dists = d;
   same_count = c;
   rows_are = λ before e. r ∙ first_more w.count row w.rows before e ∙ ap (λ x. first_rows w.count (before ++ x ∷ [])) is;
+  onward = omega arith;
   ticks = omega arith;
 }

@@ -38,4 +38,5 @@ pub record TakesNearest (m : MetricSpace) (query : List ℤ) (old : Nearing) (st
   pub same_dists : new.dists ≡ old.dists
   pub same_count : new.count ≡ old.count
   pub rows_are : (before : List Row) → old.rows ≡ first_rows old.count before → new.rows ≡ first_rows old.count (before ++ map (λ o. row_of m query o.object) offered)
+  pub onward : steps ≤ new_steps
   pub ticks : new_steps ≤ steps + length offered

@@ -10,7 +10,7 @@ use Rattle.mi_nearest.specs.Nearing.{Nearing, TakesNearest, first_rows}
 
 -- nothing was offered
 pub takes_none : (m : MetricSpace) (query : List ℤ) (w : Nearing) (steps : ℕ) → TakesNearest m query w steps [] w steps
-takes_none m query w steps = record { same_dists = refl; same_count = refl; rows_are = λ before e. e ∙ ap (first_rows w.count) (sym (append-nil before)); ticks = omega arith }
+takes_none m query w steps = record { same_dists = refl; same_count = refl; rows_are = λ before e. e ∙ ap (first_rows w.count) (sym (append-nil before)); onward = omega arith; ticks = omega arith }
 
 -- more was offered
 pub takes_more : (m : MetricSpace) (query : List ℤ) (u v w : Nearing) (k l n : ℕ) (xs ys : List Offering) → TakesNearest m query u k xs v l → TakesNearest m query v l ys w n → TakesNearest m query u k (xs ++ ys) w n
@@ -23,6 +23,7 @@ takes_more m query u v w k l n xs ys a b =
           b.rows_are (before ++ map row xs) (a.rows_are before e ∙ ap (λ c. first_rows c (before ++ map row xs)) (sym a.same_count))
           ∙ ap (λ c. first_rows c ((before ++ map row xs) ++ map row ys)) a.same_count
           ∙ ap (first_rows u.count) (append_assoc before (map row xs) (map row ys) ∙ ap (λ rows. before ++ rows) (sym (map-append row xs ys)));
+      onward = omega (arith, a.onward, b.onward);
       ticks = omega (arith, a.ticks, b.ticks, length-append xs ys);
     }
 

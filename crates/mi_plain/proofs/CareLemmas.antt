@@ -52,6 +52,16 @@ found_wanted b (l ∷ ls) leaf h =
       | false ↦ λ e k. or_right (T l) (list_any T ls) (found_wanted b ls leaf k)
     ]) refl h
 
+-- where this leaf is to be split one is
+pub some_wanted : (levels cell : ℕ) (p : List ℕ) (ls : List Leaf) → list_any (λ l. same_cell p l.prefix && is_wanted levels cell l) ls ≡ true → list_any (is_wanted levels cell) ls ≡ true
+some_wanted levels cell p [] h = cc
+some_wanted levels cell p (l ∷ ls) h =
+    let P : Bool → Type 0 = λ b. (same_cell p l.prefix && is_wanted levels cell l) ≡ b → (b || list_any (λ x. same_cell p x.prefix && is_wanted levels cell x) ls) ≡ true → (is_wanted levels cell l || list_any (is_wanted levels cell) ls) ≡ true in
+    (elim (same_cell p l.prefix && is_wanted levels cell l) as P [
+      | true ↦ λ e k. ap (λ b. b || list_any (is_wanted levels cell) ls) (and_parts (same_cell p l.prefix) (is_wanted levels cell l) e).1
+      | false ↦ λ e k. or_right (is_wanted levels cell l) (list_any (is_wanted levels cell) ls) (some_wanted levels cell p ls k)
+    ]) refl h
+
 -- a leaf that begins a permutation is to be split, where it is wanted
 pub beginning_wanted : (levels cell : ℕ) (perm : List ℕ) (ls : List Leaf) (leaf : Leaf) → leaves_beginning perm ls ≡ leaf ∷ [] → is_wanted levels cell leaf ≡ true
     → list_any (λ l. same_cell leaf.prefix l.prefix && is_wanted levels cell l) ls ≡ true

@@ -18,8 +18,10 @@ use Rattle.mi_legal.specs.Right.{Right}
 use Rattle.mi_tree.proofs.ListLemmas.{all_joined}
 use Rattle.mi_plain.specs.Answering.{Answers, Ran, RanAlone}
 use Rattle.mi_tree.specs.Growing.{Grows, GrowsBySplits}
-use Rattle.mi_plain.specs.Outcomes.{IsFinished, IsOutcomeOf}
+use Rattle.mi_plain.specs.Outcomes.{IsFinished, IsOutcomeOf, LeavesWork}
 use Rattle.mi_legal.specs.Want.{has_memory, is_memory}
+use Rattle.mi_legal.specs.Work.{AllTakeSteps, TakeSteps}
+use Rattle.mi_legal.proofs.StepLemmas.{alone_steps}
 use Rattle.mi_legal.proofs.ReplyLemmas.{StaysFull, full_stays, reach_grows, right_grows}
 use Rattle.mi_tree.proofs.GrowingLemmas.{grows_length, grows_none, grows_on, length-updates_of}
 
@@ -52,6 +54,19 @@ ran_more c old mid new session op k (o' ∷ os) (y' ∷ ys) o y ran is answers =
     (ran.0, (ran.1.0, ran_more c ran.0 mid new session (op + 1) k os ys o y ran.1.1 (omega (arith, is)) answers))
 ran_more c old mid new session op k [] (y' ∷ ys) o y ran is answers = absurd ran
 ran_more c old mid new session op k (o' ∷ os) [] o y ran is answers = absurd ran
+
+-- there is a reply to each
+pub ran_length : (c : Configuration) (old new : List LogEvent) (session op : ℕ) (os : List Op) (ys : List Reply) → Ran c old session op os ys new → length os ≡ length ys
+ran_length c old new session op [] [] ran = refl
+ran_length c old new session op (o ∷ os) (y ∷ ys) ran = omega (arith, ran_length c ran.0 new session (op + 1) os ys ran.1.1)
+ran_length c old new session op [] (y ∷ ys) ran = absurd ran
+ran_length c old new session op (o ∷ os) [] ran = absurd ran
+
+-- a run takes the steps that its replies tell
+pub finished_steps : (c : Configuration) (os : List Op) (ys : List Reply) (log : List LogEvent) (given_up : Bool) (o : Outcome) (k l : ℕ) → IsFinished c log ys c.pages given_up o → TakeSteps c log os ys k l
+    → AllTakeSteps c o.log (os ∷ []) o.replies k l
+finished_steps c os ys log given_up o k l f told =
+    subst (λ rs. AllTakeSteps c o.log (os ∷ []) rs k l) (sym f.replies_are) (subst (λ x. AllTakeSteps c x (os ∷ []) (ys ∷ []) k l) (sym f.log_is) (alone_steps c log os ys k l told))
 
 -- what the log has of a run
 ran_entered : (c : Configuration) (old new : List LogEvent) (session op : ℕ) (os : List Op) (ys : List Reply) → Ran c old session op os ys new → entered new ≡ entered old ++ accepted_in session op os ys
@@ -159,8 +174,8 @@ ran_legal c os ys mid log legal ran s =
 
 -- what is left of an index and its replies is the outcome
 pub finished_outcome : (c : Configuration) (os : List Op) (ys : List Reply) (mid log : List LogEvent) (given_up : Bool) (o : Outcome) → IsFinished c log ys c.pages given_up o → LegalLog c log → Ran c [] 0 1 os ys mid
-    → GrowsBySplits mid log → (given_up ≡ true → 1 ≤ length c.pivots) → (given_up ≡ false → Settled c log) → IsOutcomeOf c os o
-finished_outcome c os ys mid log given_up o f legal ran s pivots settled =
+    → GrowsBySplits mid log → (given_up ≡ true → 1 ≤ length c.pivots) → (given_up ≡ true → (early : List LogEvent) × (Grows early log × LeavesWork c early)) → (given_up ≡ false → Settled c log) → IsOutcomeOf c os o
+finished_outcome c os ys mid log given_up o f legal ran s pivots wanted settled =
     record {
       legal = subst (Legal c (os ∷ []) o.replies o.log) (sym f.one_page) (subst (λ rs. Legal c (os ∷ []) rs o.log 1) (sym f.replies_are) (subst (λ l. Legal c (os ∷ []) (ys ∷ []) l 1) (sym f.log_is) (ran_legal c os ys mid log legal ran s)));
       turns = subst AloneInTurn (sym f.replies_are) (ran_in_turn c [] mid 0 1 os ys ran);
@@ -173,6 +188,7 @@ finished_outcome c os ys mid log given_up o f legal ran s pivots settled =
         given_up = given_up;
         short_is = f.short_is ∙ ap (λ b. b || given_up) (sym (or-false (list_any is_memory ys)) ∙ ap has_memory (sym f.replies_are));
         pivots = pivots;
+        wanted = λ up. let w = wanted up in (w.0, (subst (Grows w.0) (sym f.log_is) w.1.0, w.1.1));
         settled = λ ended. subst (Settled c) (sym f.log_is) (settled ended);
       };
     }

@@ -7,18 +7,25 @@ use Rattle.mi_base.specs.declared.records.Reply.{Reply}
 use Rattle.mi_base.specs.Configuration.{Configuration}
 use Rattle.mi_base.specs.History.{live, updates_of}
 use Rattle.mi_tree.specs.declared.outcomes.Outcome.{Outcome}
+use Rattle.mi_tree.specs.Counting.{is_wanted}
+use Rattle.mi_tree.specs.Growing.{Grows}
 use Rattle.mi_tree.specs.Legal.{Settled, cells_of}
 use Rattle.mi_legal.specs.InTurn.{AloneInTurn}
 use Rattle.mi_legal.specs.Legal.{Legal}
 use Rattle.mi_legal.specs.Want.{has_memory, is_memory}
 use Rattle.mi_plain.specs.Answering.{RanAlone}
 
--- Memory was wanted by an operation, or by a split that the splitter gave up, which it makes under pivots alone. Where no split was
--- given up, no leaf is left to be split.
+-- a leaf is to be split
+abbrev pub LeavesWork : Configuration → List LogEvent → Type 0
+LeavesWork c log = list_any (is_wanted c.levels c.cell) (cells_of c log) ≡ true
+
+-- Memory was wanted by an operation, or by a split that the splitter gave up, which it makes under pivots alone and at a time when a
+-- leaf is to be split. Where no split was given up, no leaf is left to be split.
 pub record IsShort (c : Configuration) (o : Outcome) : Type 0 where
   pub given_up : Bool
   pub short_is : o.short ≡ (has_memory o.replies || given_up)
   pub pivots : given_up ≡ true → 1 ≤ length c.pivots
+  pub wanted : given_up ≡ true → (early : List LogEvent) × (Grows early o.log × LeavesWork c early)
   pub settled : given_up ≡ false → Settled c o.log
 
 pub record IsOutcomeOf (c : Configuration) (script : List Op) (o : Outcome) : Type 0 where

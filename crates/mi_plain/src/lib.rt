@@ -5,4 +5,4 @@ mod entries;
 mod plain;
 mod running;
 
-pub use running::run_script;
+pub use running::{run_counted, run_script};

@@ -10,6 +10,7 @@ ghost use Rattle.mi_board.specs.Boards.{HasRoom, MayCommit, MayInsert, crowded_a
 ghost use Rattle.mi_plain.specs.Answering.{Answers};
 ghost use Rattle.mi_tree.specs.Growing.{GrowsBySplits};
 ghost use Rattle.mi_legal.specs.Work.{Keeps, Works, WorksInsert, WorksNearest};
+ghost use Rattle.mi_plain.specs.Outcomes.{LeavesWork};
 ghost use Rattle.mi_plain.specs.Plain.{IsKept, NoClaims, work_left};
 ghost use Rattle.mi_tree.specs.Counting.{belongs, leaves_beginning, placed_object};
 ghost use Rattle.mi_tree.specs.Legal.{LegalLog, MayFollow, Settled, cells_of};
@@ -164,6 +165,7 @@ impl Plain {
         ensures more { IfOk result (λ did. did ≡ true → work_left self.new < work_left self.old) }
         ensures done { IfOk result (λ did. did ≡ false → Settled self.new.settings self.new.log) }
         ensures pivots { OnErr result (1 ≤ length self.old.settings.pivots) }
+        ensures wanted { OnErr result (LeavesWork self.new.settings self.new.log) }
     {
         match self.board.next_work(SPLITTER) {
             Work::Sweep { .. } => Ok(true),
@@ -182,6 +184,7 @@ impl Plain {
         ensures grows { GrowsBySplits self.old.log self.new.log }
         ensures done { OnOk result (Settled self.new.settings self.new.log) }
         ensures pivots { OnErr result (1 ≤ length self.old.settings.pivots) }
+        ensures wanted { OnErr result (LeavesWork self.new.settings self.new.log) }
     {
         while self.care(alloc)? {}
         Ok(())

@@ -1,11 +1,12 @@
 //! Runs one script alone, operation by operation, each followed by one step of the splitter.
-ghost use Rattle.std.specs.Prelude.{◌≡◌, ◌<◌, ◌≤◌, ◌||◌, [], IfOk, length, true, false};
+ghost use Rattle.std.specs.Prelude.{◌≡◌, ◌<◌, ◌≤◌, ◌||◌, [], ◌∷◌, IfOk, length, true, false};
 ghost use Rattle.std.specs.List.{list_any};
 ghost use Rattle.mi_base.specs.Configuration.{metric_space};
 ghost use Rattle.mi_base.specs.Scripts.{IsOpOver, IsScriptOver};
 ghost use Rattle.mi_plain.specs.Answering.{Answers};
 ghost use Rattle.mi_tree.specs.Growing.{GrowsBySplits};
-ghost use Rattle.mi_plain.specs.Outcomes.{IsFinished, IsOutcomeOf};
+ghost use Rattle.mi_legal.specs.Work.{AllTakeSteps, TakesSteps};
+ghost use Rattle.mi_plain.specs.Outcomes.{IsFinished, IsOutcomeOf, LeavesWork};
 ghost use Rattle.mi_legal.specs.Want.{is_memory};
 ghost use Rattle.mi_tree.specs.Legal.{LegalLog, Settled};
 ghost use Rattle.mi_plain.specs.Plain.{NoClaims};
@@ -33,6 +34,7 @@ fn answer<M: Metric, L: Ledger>(
     ensures settings { plain.new.settings ≡ plain.old.settings }
     ensures idle { NoClaims plain.new }
     ensures answers { Answers plain.old.settings plain.old.log 0 number op.now result plain.new.log }
+    ensures work { TakesSteps plain.old.settings plain.new.log op.now result steps.old steps.new }
 {
     match op {
         Op::Insert { id, vector } => plain.insert(alloc, metric, number, *id, vector, steps),
@@ -49,6 +51,7 @@ fn care(alloc: Global, plain: &mut Plain) -> bool
     ensures idle { NoClaims plain.new }
     ensures grows { GrowsBySplits plain.old.log plain.new.log }
     ensures pivots { result ≡ true → 1 ≤ length plain.old.settings.pivots }
+    ensures wanted { result ≡ true → LeavesWork plain.new.settings plain.new.log }
 {
     plain.care(alloc).is_err()
 }
@@ -60,6 +63,7 @@ fn settle(alloc: Global, plain: &mut Plain) -> bool
     ensures grows { GrowsBySplits plain.old.log plain.new.log }
     ensures done { result ≡ false → Settled plain.new.settings plain.new.log }
     ensures pivots { result ≡ true → 1 ≤ length plain.old.settings.pivots }
+    ensures wanted { result ≡ true → LeavesWork plain.new.settings plain.new.log }
 {
     plain.settle(alloc).is_err()
 }
@@ -105,8 +109,8 @@ fn outcome(
 }
 
 /// Runs the script on an empty index. After each operation the splitter makes one step, and after the last it goes on until it
-/// has nothing to do.
-fn run_counted<M: Metric, L: Ledger>(
+/// has nothing to do. The counter takes the steps that the replies tell.
+pub fn run_counted<M: Metric, L: Ledger>(
     alloc: Global,
     settings: &Settings,
     metric: &M,
@@ -115,7 +119,8 @@ fn run_counted<M: Metric, L: Ledger>(
 ) -> Result<Outcome, NoMemory>
     requires space { M.space metric.now ≡ metric_space settings.now }
     requires script { IsScriptOver (metric_space settings.now) script.now }
-    ensures { IfOk result (IsOutcomeOf settings.now script.now) }
+    ensures outcome { IfOk result (IsOutcomeOf settings.now script.now) }
+    ensures work { IfOk result (λ o. AllTakeSteps settings.now o.log (script.now ∷ []) o.replies steps.old steps.new) }
 {
     let mut plain = Plain::open(alloc, settings)?;
     let mut replies = Replies::with_room(alloc, script.len())?;
@@ -131,7 +136,7 @@ fn run_counted<M: Metric, L: Ledger>(
     outcome(alloc, plain, replies, transcript, settings.pages, given_up)
 }
 
-/// Runs the script on an empty index.
+/// The same with a counter of its own.
 pub fn run_script<M: Metric>(
     alloc: Global,
     settings: &Settings,

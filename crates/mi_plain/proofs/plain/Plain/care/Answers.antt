@@ -1,12 +1,14 @@
 use Rattle.std.proofs.Common.{◌≡◌, ◌<◌, ◌∷◌, [], ◌∙◌, length, drop, sym, subst, ap, arith, length-append}
+use Rattle.std.specs.Prelude.{Result, Ok, Err, OnErr}
 use Rattle.mi_base.specs.declared.records.LogEvent.TheVariants.{Split}
-use Rattle.mi_board.specs.Actors.{with_claim}
+use Rattle.mi_board.specs.Actors.{with_claim, without_claim}
 use Rattle.mi_base.specs.History.{at_position}
 use Rattle.mi_board.specs.Boards.{BoardState, floor_of, with_actor, with_split}
 use Rattle.mi_board.proofs.FoundLemmas.{next_swept}
 use Rattle.mi_tree.specs.Growing.{GrowsBySplits}
+use Rattle.mi_plain.specs.Outcomes.{LeavesWork}
 use Rattle.mi_plain.specs.Plain.{IsPlain, NoClaims, work_left}
-use Rattle.mi_plain.proofs.CareLemmas.{found_wanted, settled, less_work}
+use Rattle.mi_plain.proofs.CareLemmas.{found_wanted, settled, less_work, some_wanted}
 use Rattle.mi_plain.proofs.SplittingLemmas.{one_split, plain_actor, plain_beside}
 use Rattle.mi_tree.specs.Legal.{LegalLog, MayFollow, Settled, cells_of}
 use Rattle.mi_plain.proofs.plain.Plain.care.Goals as goal
@@ -59,3 +61,15 @@ returns-in-Idle-clause-done c = λ _.
     let i = c.self.inside in
     let idle : NoClaims i.board = subst NoClaims (sym c.self.view_is) c.requires.idle in
     subst (λ (x : BoardState). Settled x.settings x.log) (sym c.in-Idle.ensures.1.1) (settled i.board i.pivots i.entries.entries c.self.invariant idle c.in-Idle.ensures.1.0)
+
+on_err : {T E : Type 0} {P : Type 0} (r : Result T E) → P → OnErr r P
+on_err (Ok x) p = tt
+on_err (Err e) p = p
+
+pub returns-in_err-split-in-Split-clause-wanted : goal.returns-in_err-split-in-Split-clause-wanted
+returns-in_err-split-in-Split-clause-wanted c =
+    let b = c.self.inside.board in
+    let p = c.in-Split.leaf.prefix in
+    let now : c.split.new.self ≡ with_actor without_claim 1 (with_actor (with_claim p) 1 b) = c.in_err-split-in-Split.ensures.err ∙ ap (with_actor without_claim 1) c.in-Split.ensures.1.1 in
+    let may : MayFollow b.settings b.log (Split p) = found_wanted b (cells_of b.settings b.log) c.in-Split.leaf c.in-Split.ensures.1.0 in
+    on_err c.from_residual.result (subst (λ (x : BoardState). LeavesWork x.settings x.log) (sym now) (some_wanted b.settings.levels b.settings.cell p (cells_of b.settings b.log) may))

@@ -7,7 +7,8 @@ use Rattle.mi_base.specs.declared.records.Reply.{Reply}
 use Rattle.mi_base.specs.declared.records.Reply.TheVariants as reply
 use Rattle.mi_base.specs.Space.{IsMetric, MetricSpace}
 use Rattle.mi_base.specs.Configuration.{Configuration, metric_space, space_of}
-use Rattle.mi_base.specs.History.{live, updates_of}
+use Rattle.mi_base.specs.declared.records.LogEvent.{LogEvent}
+use Rattle.mi_base.specs.History.{at_position, live, updates_of}
 use Rattle.mi_base.specs.Permutations.{distances}
 use Rattle.mi_base.specs.Prefixes.{all_below}
 use Rattle.mi_base.specs.Sorting.{Ascends, SameElements}
@@ -33,6 +34,7 @@ use Rattle.mi_plain.specs.Opening.{AreComparable, all_shown}
 use Rattle.mi_plain.specs.Plain.{IsKept, object_in}
 use Rattle.mi_plain.proofs.QueryLemmas.{nearest_answered}
 use Rattle.mi_plain.proofs.ShownLemmas.{are_comparable, measured_by, shows_live}
+use Rattle.mi_tree.proofs.GrowingLemmas.{at_end}
 use Rattle.mi_tree.proofs.LimitLemmas.{few_cells, leaf_fits}
 use Rattle.mi_plain.proofs.plain.Plain.nearest.Given.{Over}
 use Rattle.mi_plain.proofs.plain.Plain.nearest.Goals as goal
@@ -164,6 +166,7 @@ loop-rank-preserved g c =
       same_dists = takes.same_dists ∙ c.loop-rank.invariant.same_dists;
       same_count = takes.same_count ∙ c.loop-rank.invariant.same_count;
       counted = omega (arith, c.loop-rank.invariant.counted, one);
+      onward = omega (arith, c.loop-rank.invariant.onward, takes.onward);
       ticks = omega (arith, c.loop-rank.invariant.ticks, step.few, held);
     }
 
@@ -222,11 +225,14 @@ both g c =
     let held = sum_by (λ (l : Leaf). l.count) (leaves_at cells done) in
     let got : HasNearest k s.log query c.args.count rows c.loop-rank.opened held =
     has_nearest k c.end-at.ensures.limits s.log c.end-at.ensures.legal query c.requires.fits metric (all_shown es) (shows_live k c.end-at.ensures.limits s.log es kept same) c.args.count items done rest rows ranked parts
-    c.loop-rank.invariant.walked (stopped g c) c.loop-rank.opened held c.loop-rank.invariant.counted (omega arith) in (
+    c.loop-rank.invariant.walked (stopped g c) c.loop-rank.opened held c.loop-rank.invariant.counted (omega arith) in
+    let whole : at_position s.log c.end-at.result ≡ s.log = ap (at_position s.log) c.end-at.ensures.end ∙ at_end s.log in
+    let few : held ≤ reached_objects (space_of k) k.levels (at_position s.log c.end-at.result) query (kth_distance c.args.count rows) =
+    subst (λ (l : List LogEvent). held ≤ reached_objects (space_of k) k.levels l query (kth_distance c.args.count rows)) (sym whole) got.few in (
       λ op. subst (λ (y : Reply). Answers k s.log 0 op (Nearest c.args.count query) y s.log) (sym c.finish.ensures)
           (nearest_answered k s.log op query c.args.count c.end-at.result rows c.loop-rank.opened held c.end-at.ensures.end got),
       subst (λ (y : Reply). WorksNearest k s.log c.args.count query c.args.steps.now y c.loop-rank.steps) (sym c.finish.ensures)
-          (omega (arith, got.few, c.loop-rank.invariant.ticks, c.measure-dists.ensures.steps, ap length pivots)),
+          (omega (arith, c.loop-rank.invariant.onward, c.measure-dists.ensures.steps, ap length pivots), omega (arith, few, c.loop-rank.invariant.ticks, c.measure-dists.ensures.steps, ap length pivots)),
     )
 
 pub returns-clause-answers : goal.returns-clause-answers

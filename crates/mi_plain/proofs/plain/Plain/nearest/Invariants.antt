@@ -21,5 +21,6 @@ invariant-loop-rank g l =
       same_dists : l.work.dists ≡ l.initial.work.dists;
       same_count : l.work.count ≡ l.initial.work.count;
       counted : l.opened ≡ sum_by (λ (leaf : Leaf). 1) (leaves_at cells done);
+      onward : l.initial.steps ≤ l.steps;
       ticks : l.steps ≤ l.initial.steps + sum_by (λ (leaf : Leaf). leaf.count) (leaves_at cells done);
     }
