@@ -17,10 +17,10 @@ use Rattle.mi_base.specs.Space.{IsMetric, MetricSpace}
 use Rattle.mi_base.proofs.HistoryLemmas.{row_exact, row_total}
 use Rattle.mi_base.proofs.SortingLemmas.{sorted_ascends, sorted_of_same}
 use Rattle.mi_key.specs.Entries.{Offering}
-use Rattle.mi_rules.specs.Answers.{Measured}
+use Rattle.mi_rules.specs.Answers.{AreMeasured}
 use Rattle.mi_rules.proofs.RuleLemmas.{not_less, refused_far}
 use Rattle.mi_rules.specs.Passing.{kth_distance, last_distance}
-use Rattle.mi_nearest.specs.Nearing.{Nearing, TakesNearest, first_rows, may_be_near, worst_of}
+use Rattle.mi_nearest.specs.Nearing.{NearestWorkState, TakesNearest, first_rows, may_be_near, worst_of}
 
 take_take : {X : Type 0} (k : ℕ) (xs : List X) → take k (take (suc k) xs) ≡ take k xs
 take_take zero xs = refl
@@ -101,7 +101,7 @@ kth_full k rows worst told =
 pub farther_kth : (k : ℕ) (row : Row) (rows before : List Row) (worst : ℕ) → rows ≡ first_rows k before → kth_distance k rows ≡ Some worst → worst < row.distance → rows ≡ first_rows k (before ++ row ∷ [])
 farther_kth k row rows before worst e told far = let full = kth_full k rows worst told in first_without k row rows before worst e full.0 full.1 far
 
-pub farther_out : (w : Nearing) (before : List Row) (worst : ℕ) (row : Row) → w.rows ≡ first_rows w.count before → worst_of w ≡ Some worst → worst < row.distance → w.rows ≡ first_rows w.count (before ++ row ∷ [])
+pub farther_out : (w : NearestWorkState) (before : List Row) (worst : ℕ) (row : Row) → w.rows ≡ first_rows w.count before → worst_of w ≡ Some worst → worst < row.distance → w.rows ≡ first_rows w.count (before ++ row ∷ [])
 farther_out w before worst row e told far = farther_kth w.count row w.rows before worst e told far
 
 -- the first rows don't hang on the order of the rows
@@ -109,8 +109,8 @@ pub first_of_same : (count : ℕ) (xs ys : List Row) → SameElements xs ys → 
 first_of_same count xs ys same = ap (take count) (sorted_of_same row_cmp row_total row_exact xs ys same)
 
 -- an entry that the filter refuses is no row
-pub take_refused : (m : MetricSpace) → IsMetric m → (query : List ℤ) → IsTrue (m.fits query) → (w : Nearing) (steps : ℕ) (o : Offering) → IsTrue (m.fits o.object.vector)
-    → Measured m query w.dists o.object.vector o.dists → may_be_near (worst_of w) w.dists o.dists ≡ false → TakesNearest m query w steps (o ∷ []) w steps
+pub take_refused : (m : MetricSpace) → IsMetric m → (query : List ℤ) → IsTrue (m.fits query) → (w : NearestWorkState) (steps : ℕ) (o : Offering) → IsTrue (m.fits o.object.vector)
+    → AreMeasured m query w.dists o.object.vector o.dists → may_be_near (worst_of w) w.dists o.dists ≡ false → TakesNearest m query w steps (o ∷ []) w steps
 take_refused m is query fq w steps o fo me f =
     let row = row_of m query o.object in
     let Q : Option ℕ → Type 0 = λ worst. may_be_near worst w.dists o.dists ≡ false → (v : ℕ) × (worst ≡ Some v) × (v < m.d query o.object.vector) in
@@ -128,7 +128,7 @@ take_refused m is query fq w steps o fo me f =
     }
 
 -- an entry that is compared is a row
-pub take_kept : (m : MetricSpace) (query : List ℤ) (w v : Nearing) (steps new_steps : ℕ) (o : Offering) (row : Row) → row ≡ row_of m query o.object → v.dists ≡ w.dists → v.count ≡ w.count
+pub take_kept : (m : MetricSpace) (query : List ℤ) (w v : NearestWorkState) (steps new_steps : ℕ) (o : Offering) (row : Row) → row ≡ row_of m query o.object → v.dists ≡ w.dists → v.count ≡ w.count
     → v.rows ≡ take w.count (put row_cmp row w.rows) → new_steps ≡ steps + 1 → TakesNearest m query w steps (o ∷ []) v new_steps
 take_kept m query w v steps new_steps o row is d c r t = record {
   same_dists = d;

@@ -24,7 +24,7 @@ use Rattle.mi_key.proofs.ClusterLemmas.{cluster-exact}
 use Rattle.mi_key.proofs.FitLemmas.{distance_fits}
 use Rattle.mi_nearest.specs.declared.order.Rank.{Rank}
 use Rattle.mi_nearest.specs.Order.{IsRank, IsRanked, leaves_at, rank_cmp}
-use Rattle.mi_nearest.specs.Nearing.{Nearing, TakesNearest, first_rows, stops_at, worst_of}
+use Rattle.mi_nearest.specs.Nearing.{NearestWorkState, TakesNearest, first_rows, stops_at, worst_of}
 use Rattle.mi_nearest.specs.Walking.{HasNearest, OpensLeaf, StopsAt, KeepsFirst, rows_at, rows_in}
 use Rattle.mi_nearest.proofs.FirstLemmas.{first_of_same}
 use Rattle.mi_nearest.proofs.WalkLemmas.{NoNearer, all_later, below_next, far_out, same_flat, walk_ends, walked_more}
@@ -291,7 +291,7 @@ module _ (c : Configuration) (limits : IsWithinLimits c) (log : List LogEvent) (
 
   -- an opened leaf: the rows are the first ones of those before and of all the leaf's, and no more steps were taken than it has objects
   pub opened_leaf : (xs : List Shown) → ShowsLive c log xs
-      → (p : List ℕ) → IsCell p → (hull : ℕ × ℕ) → (leaf_with (grid_under c) (population (grid_under c) log) p).hull ≡ Some hull → (span : Interval) (w v : Nearing) (n k : ℕ)
+      → (p : List ℕ) → IsCell p → (hull : ℕ × ℕ) → (leaf_with (grid_under c) (population (grid_under c) log) p).hull ≡ Some hull → (span : Interval) (w v : NearestWorkState) (n k : ℕ)
       → ((key : ℕ) → is_within span key ≡ is_near (distances (space_of c) query) (worst_of w) c.levels p hull (parts_of key))
       → TakesNearest (metric_space c) query w n (offerings (within span xs)) v k → (before : List Row) → w.rows ≡ first_rows w.count before
       → (v.rows ≡ first_rows w.count (before ++ rows_in c query xs (leaf_with (grid_under c) (population (grid_under c) log) p))) × (k ≤ n + (leaf_with (grid_under c) (population (grid_under c) log) p).count)
@@ -365,7 +365,7 @@ module _ (c : Configuration) (limits : IsWithinLimits c) (log : List LogEvent) (
 
   -- one leaf more was opened
   pub walk_step : (xs : List Shown) → ShowsLive c log xs → (count : ℕ) → 1 ≤ count → (ranks done rest : List Rank) (r : Rank)
-      → IsRanked (distances (space_of c) query) (cells_of c log) ranks → ranks ≡ done ++ r ∷ rest → (leaf : Leaf) → slice_get (cells_of c log) r.place ≡ Some leaf → (w v : Nearing) (n k : ℕ) (span : Interval) → w.count ≡ count
+      → IsRanked (distances (space_of c) query) (cells_of c log) ranks → ranks ≡ done ++ r ∷ rest → (leaf : Leaf) → slice_get (cells_of c log) r.place ≡ Some leaf → (w v : NearestWorkState) (n k : ℕ) (span : Interval) → w.count ≡ count
       → KeepsFirst count (cells_of c log) (rows_in c query xs) done w.rows → IfSome (kth_distance count w.rows) (λ worst. r.bound ≤ worst)
       → IfSome leaf.hull (λ hull. (key : ℕ) → is_within span key ≡ is_near (distances (space_of c) query) (kth_distance count w.rows) c.levels leaf.prefix hull (parts_of key))
       → TakesNearest (metric_space c) query w n (offerings (within span xs)) v k → OpensLeaf count (cells_of c log) (rows_in c query xs) (done ++ r ∷ []) leaf v.rows n k

@@ -8,7 +8,7 @@ use Rattle.mi_key.specs.Entries.{Offering}
 use Rattle.mi_rules.specs.Passing.{kth_distance, lets_through}
 
 -- the query's distances to the pivots, how many rows it is for, the rows kept in their order, and how many rows more there is room for
-pub record Nearing : Type 0 where
+pub record NearestWorkState : Type 0 where
   pub dists : List ℕ
   pub count : ℕ
   pub rows : List Row
@@ -19,7 +19,7 @@ abbrev pub first_rows : ℕ → List Row → List Row
 first_rows count rows = take count (sorted row_cmp rows)
 
 -- the greatest distance kept, once there are as many rows as the query is for
-abbrev pub worst_of : Nearing → Option ℕ
+abbrev pub worst_of : NearestWorkState → Option ℕ
 worst_of w = kth_distance w.count w.rows
 
 -- no leaf of such a bound has to be opened: there are rows enough, and the last of them is nearer
@@ -34,7 +34,7 @@ may_be_near (Some worst) dq dists = lets_through worst dq dists
 
 -- These were offered in this order, each at the cost of one step at most: if the rows were the first ones of some, they are the first
 -- ones of those and the rows of what was offered.
-pub record TakesNearest (m : MetricSpace) (query : List ℤ) (old : Nearing) (steps : ℕ) (offered : List Offering) (new : Nearing) (new_steps : ℕ) : Type 0 where
+pub record TakesNearest (m : MetricSpace) (query : List ℤ) (old : NearestWorkState) (steps : ℕ) (offered : List Offering) (new : NearestWorkState) (new_steps : ℕ) : Type 0 where
   pub same_dists : new.dists ≡ old.dists
   pub same_count : new.count ≡ old.count
   pub rows_are : (before : List Row) → old.rows ≡ first_rows old.count before → new.rows ≡ first_rows old.count (before ++ map (λ o. row_of m query o.object) offered)

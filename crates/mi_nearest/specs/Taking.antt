@@ -6,14 +6,14 @@ use Rattle.mi_base.specs.declared.records.Row.{Row}
 use Rattle.mi_base.specs.History.{row_of}
 use Rattle.mi_base.specs.Space.{MetricSpace}
 use Rattle.mi_key.specs.Entries.{Offering}
-use Rattle.mi_nearest.specs.Nearing.{Nearing, TakesNearest, first_rows}
+use Rattle.mi_nearest.specs.Nearing.{NearestWorkState, TakesNearest, first_rows}
 
 -- nothing was offered
-pub takes_none : (m : MetricSpace) (query : List ℤ) (w : Nearing) (steps : ℕ) → TakesNearest m query w steps [] w steps
+pub takes_none : (m : MetricSpace) (query : List ℤ) (w : NearestWorkState) (steps : ℕ) → TakesNearest m query w steps [] w steps
 takes_none m query w steps = record { same_dists = refl; same_count = refl; rows_are = λ before e. e ∙ ap (first_rows w.count) (sym (append-nil before)); onward = omega arith; ticks = omega arith }
 
 -- more was offered
-pub takes_more : (m : MetricSpace) (query : List ℤ) (u v w : Nearing) (k l n : ℕ) (xs ys : List Offering) → TakesNearest m query u k xs v l → TakesNearest m query v l ys w n → TakesNearest m query u k (xs ++ ys) w n
+pub takes_more : (m : MetricSpace) (query : List ℤ) (u v w : NearestWorkState) (k l n : ℕ) (xs ys : List Offering) → TakesNearest m query u k xs v l → TakesNearest m query v l ys w n → TakesNearest m query u k (xs ++ ys) w n
 takes_more m query u v w k l n xs ys a b =
     let row : Offering → Row = λ o. row_of m query o.object in
     record {
@@ -28,6 +28,6 @@ takes_more m query u v w k l n xs ys a b =
     }
 
 -- the same, where the metric and the query go by another name the second time
-pub takes_more_of : {m m' : MetricSpace} {q q' : List ℤ} {u v w : Nearing} {k l n : ℕ} {xs ys : List Offering} → m' ≡ m → q' ≡ q → TakesNearest m q u k xs v l → TakesNearest m' q' v l ys w n → TakesNearest m q u k (xs ++ ys) w n
+pub takes_more_of : {m m' : MetricSpace} {q q' : List ℤ} {u v w : NearestWorkState} {k l n : ℕ} {xs ys : List Offering} → m' ≡ m → q' ≡ q → TakesNearest m q u k xs v l → TakesNearest m' q' v l ys w n → TakesNearest m q u k (xs ++ ys) w n
 takes_more_of {m = m} {m' = m'} {q = q} {q' = q'} {u = u} {v = v} {w = w} {k = k} {l = l} {n = n} {xs = xs} {ys = ys} e f a b =
     takes_more m q u v w k l n xs ys a (subst (λ (x : MetricSpace). TakesNearest x q v l ys w n) e (subst (λ (x : List ℤ). TakesNearest m' x v l ys w n) f b))

@@ -16,7 +16,7 @@ ghost use Rattle.mi_key.specs.Keys.{parts_of};
 ghost use Rattle.mi_key.specs.Ranges.{is_within};
 ghost use Rattle.mi_key.specs.Shown.{Shown, offerings, within};
 ghost use Rattle.mi_nearest.specs.declared.order.Rank.{Rank};
-ghost use Rattle.mi_nearest.specs.Nearing.{Nearing, TakesNearest, first_rows, worst_of};
+ghost use Rattle.mi_nearest.specs.Nearing.{NearestWorkState, TakesNearest, first_rows, worst_of};
 ghost use Rattle.mi_nearest.specs.Order.{IsRanked, leaves_at};
 ghost use Rattle.mi_nearest.specs.Walking.{HasNearest, OpensLeaf, StopsAt, KeepsFirst, rows_in};
 ghost use Rattle.mi_rules.specs.Passing.{kth_distance};
@@ -29,15 +29,15 @@ ghost use Rattle.mi_tree.specs.Counting.{catalog_after};
 
 /// To be offered one list and then another is to be offered both.
 pub fn taking_goes_on()
-    ensures none { (m : MetricSpace) (query : List ℤ) (work : Nearing) (steps : ℕ) → TakesNearest m query work steps [] work steps }
-    ensures more { (m : MetricSpace) (query : List ℤ) (first second third : Nearing) (k l n : ℕ) (xs ys : List Offering)
+    ensures none { (m : MetricSpace) (query : List ℤ) (work : NearestWorkState) (steps : ℕ) → TakesNearest m query work steps [] work steps }
+    ensures more { (m : MetricSpace) (query : List ℤ) (first second third : NearestWorkState) (k l n : ℕ) (xs ys : List Offering)
         → TakesNearest m query first k xs second l → TakesNearest m query second l ys third n → TakesNearest m query first k (xs ++ ys) third n }
 {}
 
 /// A row that is farther than the greatest distance kept is none of the first ones, and the first ones are the same in whatever
 /// order the rows come.
 pub fn first_rows_stay()
-    ensures farther { (work : Nearing) (before : List Row) (worst : ℕ) (row : Row) → work.rows ≡ first_rows work.count before → worst_of work ≡ Some worst → worst < row.distance
+    ensures farther { (work : NearestWorkState) (before : List Row) (worst : ℕ) (row : Row) → work.rows ≡ first_rows work.count before → worst_of work ≡ Some worst → worst < row.distance
         → work.rows ≡ first_rows work.count (before ++ row ∷ []) }
     ensures order { (count : ℕ) (xs ys : List Row) → SameElements xs ys → first_rows count xs ≡ first_rows count ys }
 {}
@@ -54,7 +54,7 @@ pub fn places_ascend()
 pub fn ranked_leaves_have_the_nearest()
     ensures opens { (c : Configuration) → IsWithinLimits c → (log : List LogEvent) → LegalLog c log → (query : List ℤ) → IsTrue ((metric_space c).fits query) → IsMetric (metric_space c)
         → (xs : List Shown) → ShowsLive c log xs → (count : ℕ) → 1 ≤ count → (ranks done rest : List Rank) (rank : Rank) → IsRanked (distances (space_of c) query) (cells_of c log) ranks → ranks ≡ done ++ rank ∷ rest
-        → (leaf : Leaf) → slice_get (cells_of c log) rank.place ≡ Some leaf → (old new : Nearing) (steps new_steps : ℕ) (span : Interval) → old.count ≡ count
+        → (leaf : Leaf) → slice_get (cells_of c log) rank.place ≡ Some leaf → (old new : NearestWorkState) (steps new_steps : ℕ) (span : Interval) → old.count ≡ count
         → KeepsFirst count (cells_of c log) (rows_in c query xs) done old.rows → IfSome (kth_distance count old.rows) (λ worst. rank.bound ≤ worst)
         → IfSome leaf.hull (λ hull. (key : ℕ) → is_within span key ≡ is_near (distances (space_of c) query) (kth_distance count old.rows) c.levels leaf.prefix hull (parts_of key))
         → TakesNearest (metric_space c) query old steps (offerings (within span xs)) new new_steps → OpensLeaf count (cells_of c log) (rows_in c query xs) (done ++ rank ∷ []) leaf new.rows steps new_steps }

@@ -4,7 +4,7 @@ ghost use Rattle.arrayvec.specs.ArrayVec.{array_vec_len};
 ghost use Rattle.mi_base.specs.History.{row_cmp};
 ghost use Rattle.mi_base.specs.Sorting.{put};
 ghost use Rattle.mi_key.specs.Entries.{offering_of};
-ghost use Rattle.mi_rules.specs.Answers.{Measured};
+ghost use Rattle.mi_rules.specs.Answers.{AreMeasured};
 ghost use Rattle.mi_nearest.specs.Nearing.{TakesNearest, may_be_near, stops_at, worst_of};
 
 use mi_base::{Dists, NoMemory, Position, Reply, Row, Rows, Steps, Vector};
@@ -32,9 +32,9 @@ impl Model for NearestWork {
     ghost use Rattle.std.specs.BinaryHeap.{IsHeap, heap_capacity, heap_items, heap_len};
     ghost use Rattle.mi_base.specs.History.{row_cmp};
     ghost use Rattle.mi_base.specs.Sorting.{sorted};
-    ghost use Rattle.mi_nearest.specs.Nearing.{Nearing};
+    ghost use Rattle.mi_nearest.specs.Nearing.{NearestWorkState};
 
-    ghost Value = { Nearing };
+    ghost Value = { NearestWorkState };
 
     ghost view = { λ w. record { dists = w.dists.items; count = w.count; rows = sorted row_cmp (heap_items w.rows); spare = w.spare } };
 
@@ -81,7 +81,7 @@ impl NearestWork {
         requires spare { 1 ≤ self.old.spare }
         requires query { IsTrue ((M.space metric.now).fits query.now) }
         requires object { IsTrue ((M.space metric.now).fits entry.now.vector) }
-        requires measured { Measured (M.space metric.now) query.now self.old.dists entry.now.vector entry.now.dists.items }
+        requires measured { AreMeasured (M.space metric.now) query.now self.old.dists entry.now.vector entry.now.dists.items }
         ensures taken { TakesNearest (M.space metric.now) query.now self.old steps.old (offering_of entry.now ∷ []) self.new steps.new }
         ensures steps { steps.new ≡ steps.old + cond (may_be_near (worst_of self.old) self.old.dists entry.now.dists.items) 1 0 }
         ensures spare { self.old.spare ≤ self.new.spare + 1 }

@@ -22,7 +22,7 @@ use Rattle.mi_nearest.specs.Walking.{HasNearest}
 use Rattle.mi_plain.specs.Answering.{Answers}
 use Rattle.mi_plain.proofs.AnswerLemmas.{unchanged}
 use Rattle.mi_range.specs.Opening.{HasScan, leaf_offered, leaves_offered}
-use Rattle.mi_range.specs.Ranging.{Ranging, TakesRange}
+use Rattle.mi_range.specs.Ranging.{RangeWorkState, TakesRange}
 use Rattle.mi_range.specs.Taking.{takes_more}
 use Rattle.mi_range.proofs.ScanLemmas.{leaves_more, none_offered, span_offered}
 use Rattle.mi_rules.specs.Passing.{opened_count, passes}
@@ -32,7 +32,7 @@ use Rattle.mi_tree.specs.Legal.{cells_of}
 use Rattle.mi_tree.proofs.GrowingLemmas.{end_events}
 
 -- a leaf that passes was read
-pub leaf_taken : (m : MetricSpace) (query : List ℤ) (first w v : Ranging) (k n l : ℕ) (dq : List ℕ) (radius levels : ℕ) (xs : List Shown) (ls : List Leaf) (i : ℕ) (leaf : Leaf) (span : Interval)
+pub leaf_taken : (m : MetricSpace) (query : List ℤ) (first w v : RangeWorkState) (k n l : ℕ) (dq : List ℕ) (radius levels : ℕ) (xs : List Shown) (ls : List Leaf) (i : ℕ) (leaf : Leaf) (span : Interval)
     → slice_get ls i ≡ Some leaf → passes dq radius leaf ≡ true → ((key : ℕ) → is_within span key ≡ is_in_span dq radius levels leaf.prefix (parts_of key))
     → TakesRange m query first k (leaves_offered dq radius levels xs (take i ls)) w n → TakesRange m query w n (offerings (within span xs)) v l
     → TakesRange m query first k (leaves_offered dq radius levels xs (take (i + 1) ls)) v l
@@ -43,7 +43,7 @@ leaf_taken m query first w v k n l dq radius levels xs ls i leaf span at is has 
     subst (λ (os : List Offering). TakesRange m query first k os v l) all (takes_more m query first w v k n l sofar (offerings (within span xs)) before next)
 
 -- and one that doesn't pass wasn't
-pub leaf_passed : (m : MetricSpace) (query : List ℤ) (first w : Ranging) (k n : ℕ) (dq : List ℕ) (radius levels : ℕ) (xs : List Shown) (ls : List Leaf) (i : ℕ) (leaf : Leaf)
+pub leaf_passed : (m : MetricSpace) (query : List ℤ) (first w : RangeWorkState) (k n : ℕ) (dq : List ℕ) (radius levels : ℕ) (xs : List Shown) (ls : List Leaf) (i : ℕ) (leaf : Leaf)
     → slice_get ls i ≡ Some leaf → passes dq radius leaf ≡ false → TakesRange m query first k (leaves_offered dq radius levels xs (take i ls)) w n
     → TakesRange m query first k (leaves_offered dq radius levels xs (take (i + 1) ls)) w n
 leaf_passed m query first w k n dq radius levels xs ls i leaf at is before =
@@ -53,7 +53,7 @@ leaf_passed m query first w k n dq radius levels xs ls i leaf at is before =
     subst (λ (os : List Offering). TakesRange m query first k os w n) all before
 
 -- what was offered of all places is offered of all leaves
-pub all_taken : (c : Configuration) (log : List LogEvent) (query : List ℤ) (radius : ℕ) (xs : List Shown) (m : MetricSpace) (dq : List ℕ) (levels i : ℕ) (first w : Ranging) (k n : ℕ)
+pub all_taken : (c : Configuration) (log : List LogEvent) (query : List ℤ) (radius : ℕ) (xs : List Shown) (m : MetricSpace) (dq : List ℕ) (levels i : ℕ) (first w : RangeWorkState) (k n : ℕ)
     → m ≡ metric_space c → dq ≡ distances (space_of c) query → levels ≡ c.levels → length (cells_of c log) ≤ i
     → TakesRange m query first k (leaves_offered dq radius levels xs (take i (cells_of c log))) w n
     → TakesRange (metric_space c) query first k (leaves_offered (distances (space_of c) query) radius c.levels xs (cells_of c log)) w n
@@ -70,7 +70,7 @@ abbrev TellsAtEnd : List LogEvent → Position → Type 0
 TellsAtEnd log p = (length log ≤ events_at p) × (events_at p ≤ length log)
 
 -- a query that has what a scan gives has its answer at the end of the log
-pub range_answered : (c : Configuration) (log : List LogEvent) (op : ℕ) (query : List ℤ) (radius : ℕ) (at : Position) (work : Ranging) (k n cells : ℕ) → at ≡ end_of log → HasScan c log query radius k work n
+pub range_answered : (c : Configuration) (log : List LogEvent) (op : ℕ) (query : List ℤ) (radius : ℕ) (at : Position) (work : RangeWorkState) (k n cells : ℕ) → at ≡ end_of log → HasScan c log query radius k work n
     → cells ≡ opened_count (space_of c) c.levels log query radius → Answers c log 0 op (Op.Range radius query) (Reply.Range at (sorted row_cmp work.rows) cells work.distances) log
 range_answered c log op query radius at work k n cells at_is scan cells_are =
     let right = range_at_end c log radius query at (sorted row_cmp work.rows) cells work.distances at_is scan.rows_are cells_are scan.distances_are in

@@ -41,7 +41,7 @@ same_made c d i b c' d' i' b' p q r s = cc
 
 -- an entry under its child's key
 abbrev moved : List ℕ → ℕ → Entry → Entry
-moved p levels e = record { key = child_key p levels e; vector = e.vector; dists = e.dists; birth = e.birth; death = e.death }
+moved p levels e = record e { key = child_key p levels e }
 
 module _ (c : Configuration) (limits : IsWithinLimits c) where
   pub config_grid : IsGrid (grid_under c)

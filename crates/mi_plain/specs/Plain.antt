@@ -43,12 +43,7 @@ NoClaims b = ((actor_at b.actors 0).claim ≡ None) × ((actor_at b.actors 1).cl
 
 -- the key of the child that an entry of the split leaf belongs to
 abbrev pub child_key : List ℕ → ℕ → Entry → ℕ
-child_key split levels e = key_of (record {
-  cluster = cluster_of (length e.dists.items) levels (take (length split + 1) (permutation_of e.dists.items));
-  distance = (parts_of e.key).distance;
-  id = (parts_of e.key).id;
-  birth = (parts_of e.key).birth;
-})
+child_key split levels e = key_of (record (parts_of e.key) { cluster = cluster_of (length e.dists.items) levels (take (length split + 1) (permutation_of e.dists.items)) })
 
 -- an entry of the split leaf moves under its child's key, and others stay
 abbrev pub moves : List ℕ → ℕ → Entry → Bool
@@ -57,7 +52,7 @@ moves split levels e =
 
 abbrev pub child_entry : List ℕ → ℕ → Entry → Entry
 child_entry split levels e =
-    cond (moves split levels e) (record { key = child_key split levels e; vector = e.vector; dists = e.dists; birth = e.birth; death = e.death }) e
+    cond (moves split levels e) (record e { key = child_key split levels e }) e
 
 -- how many steps the splitter can still make at most: each split is swept, and a legal log has few of them
 abbrev pub work_left : BoardState → ℕ

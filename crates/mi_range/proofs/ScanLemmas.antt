@@ -20,7 +20,7 @@ use Rattle.mi_key.specs.declared.ranges.Interval.{Interval}
 use Rattle.mi_key.specs.Ranges.{is_within}
 use Rattle.mi_key.specs.Shown.{Shown, object_shown, offerings, within}
 use Rattle.mi_range.specs.Opening.{HasScan, IsFresh, leaf_offered, leaves_offered}
-use Rattle.mi_range.specs.Ranging.{Ranging, TakesRange, compared_count}
+use Rattle.mi_range.specs.Ranging.{RangeWorkState, TakesRange, compared_count}
 use Rattle.mi_rules.specs.Passing.{candidates, lets_through, passes}
 use Rattle.mi_rules.specs.Spans.{is_in_span}
 use Rattle.mi_rules.specs.Standing.{ShowsLive, StandsInLeaf}
@@ -210,7 +210,7 @@ module _ (c : Configuration) (limits : IsWithinLimits c) (log : List LogEvent) (
       ∙ ap (λ (os : List Object). sorted row_cmp (rows os)) (objects_are xs) ∙ sorted-hits m (updates_of log) query radius (map object_shown xs) shows.same
 
   -- the work that was offered what the leaves that pass have
-  pub has_scan : IsMetric (metric_space c) → IsTrue ((metric_space c).fits query) → (first work : Ranging) (steps new_steps : ℕ) → IsFresh (distances (space_of c) query) radius first
+  pub has_scan : IsMetric (metric_space c) → IsTrue ((metric_space c).fits query) → (first work : RangeWorkState) (steps new_steps : ℕ) → IsFresh (distances (space_of c) query) radius first
       → TakesRange (metric_space c) query first steps (leaves_offered (distances (space_of c) query) radius c.levels xs (cells_of c log)) work new_steps → HasScan c log query radius steps work new_steps
   has_scan metric fits first work steps new_steps fresh taken =
       let dq = distances (space_of c) query in

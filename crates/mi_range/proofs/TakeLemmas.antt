@@ -6,13 +6,13 @@ use Rattle.mi_base.specs.History.{Object, hits, row_of}
 use Rattle.mi_base.specs.Space.{IsMetric, MetricSpace}
 use Rattle.mi_key.specs.Entries.{Offering}
 use Rattle.mi_rules.specs.Passing.{lets_through}
-use Rattle.mi_rules.specs.Answers.{Measured}
+use Rattle.mi_rules.specs.Answers.{AreMeasured}
 use Rattle.mi_rules.proofs.RuleLemmas.{refused_far}
-use Rattle.mi_range.specs.Ranging.{Ranging, TakesRange, compared_count}
+use Rattle.mi_range.specs.Ranging.{RangeWorkState, TakesRange, compared_count}
 
 -- an entry that the filter refuses is no row and no step
-pub take_refused : (m : MetricSpace) → IsMetric m → (query : List ℤ) → IsTrue (m.fits query) → (w : Ranging) (steps : ℕ) (o : Offering) → IsTrue (m.fits o.object.vector)
-    → Measured m query w.dists o.object.vector o.dists → lets_through w.radius w.dists o.dists ≡ false → TakesRange m query w steps (o ∷ []) w steps
+pub take_refused : (m : MetricSpace) → IsMetric m → (query : List ℤ) → IsTrue (m.fits query) → (w : RangeWorkState) (steps : ℕ) (o : Offering) → IsTrue (m.fits o.object.vector)
+    → AreMeasured m query w.dists o.object.vector o.dists → lets_through w.radius w.dists o.dists ≡ false → TakesRange m query w steps (o ∷ []) w steps
 take_refused m is query fq w steps o fo me f =
     let far : nat_le (m.d query o.object.vector) w.radius ≡ false = refused_far m is query o.object.vector w.dists o.dists w.radius fq fo me f in
     let nothing : compared_count w.dists w.radius (o ∷ []) ≡ 0 = ap (λ b. 0 + cond b 1 0) f in

@@ -8,7 +8,7 @@ use Rattle.mi_rules.specs.Passing.{lets_through}
 
 -- the query's distances to the pivots, its radius, the rows so far in the order of what was offered, how many distances were
 -- computed, and how many rows more there is room for
-pub record Ranging : Type 0 where
+pub record RangeWorkState : Type 0 where
   pub dists : List ℕ
   pub radius : ℕ
   pub rows : List Row
@@ -21,7 +21,7 @@ compared_count dq radius offered = count_by (λ o. lets_through radius dq o.dist
 
 -- These were offered in this order: the rows of those within the radius were added, and each that the filter lets through was one
 -- step. The distances are counted in 64 bits.
-pub record TakesRange (m : MetricSpace) (query : List ℤ) (old : Ranging) (steps : ℕ) (offered : List Offering) (new : Ranging) (new_steps : ℕ) : Type 0 where
+pub record TakesRange (m : MetricSpace) (query : List ℤ) (old : RangeWorkState) (steps : ℕ) (offered : List Offering) (new : RangeWorkState) (new_steps : ℕ) : Type 0 where
   pub same_dists : new.dists ≡ old.dists
   pub same_radius : new.radius ≡ old.radius
   pub rows_are : new.rows ≡ old.rows ++ hits m query old.radius (map (λ o. o.object) offered)

@@ -12,7 +12,7 @@ ghost use Rattle.mi_key.specs.Keys.{parts_of};
 ghost use Rattle.mi_key.specs.Ranges.{is_within};
 ghost use Rattle.mi_key.specs.Shown.{Shown, offerings, within};
 ghost use Rattle.mi_range.specs.Opening.{HasScan, IsFresh, leaf_offered, leaves_offered};
-ghost use Rattle.mi_range.specs.Ranging.{Ranging, TakesRange};
+ghost use Rattle.mi_range.specs.Ranging.{RangeWorkState, TakesRange};
 ghost use Rattle.mi_rules.specs.Passing.{passes};
 ghost use Rattle.mi_rules.specs.Spans.{is_in_span};
 ghost use Rattle.mi_rules.specs.Standing.{ShowsLive};
@@ -21,8 +21,8 @@ ghost use Rattle.mi_tree.specs.Legal.{LegalLog, cells_of};
 
 /// To be offered one list and then another is to be offered both.
 pub fn taking_goes_on()
-    ensures none { (m : MetricSpace) (query : List ℤ) (work : Ranging) (steps : ℕ) → TakesRange m query work steps [] work steps }
-    ensures more { (m : MetricSpace) (query : List ℤ) (first second third : Ranging) (k l n : ℕ) (xs ys : List Offering)
+    ensures none { (m : MetricSpace) (query : List ℤ) (work : RangeWorkState) (steps : ℕ) → TakesRange m query work steps [] work steps }
+    ensures more { (m : MetricSpace) (query : List ℤ) (first second third : RangeWorkState) (k l n : ℕ) (xs ys : List Offering)
         → TakesRange m query first k xs second l → TakesRange m query second l ys third n → TakesRange m query first k (xs ++ ys) third n }
 {}
 
@@ -36,7 +36,7 @@ pub fn far_objects_are_no_rows()
 /// and was compared with the candidates. What is offered of a leaf comes after what was offered of those before it.
 pub fn leaves_that_pass_have_the_scan()
     ensures scan { (c : Configuration) → IsWithinLimits c → (log : List LogEvent) → LegalLog c log → (query : List ℤ) (radius : ℕ) (xs : List Shown) → ShowsLive c log xs
-        → IsMetric (metric_space c) → IsTrue ((metric_space c).fits query) → (first work : Ranging) (steps new_steps : ℕ) → IsFresh (distances (space_of c) query) radius first
+        → IsMetric (metric_space c) → IsTrue ((metric_space c).fits query) → (first work : RangeWorkState) (steps new_steps : ℕ) → IsFresh (distances (space_of c) query) radius first
         → TakesRange (metric_space c) query first steps (leaves_offered (distances (space_of c) query) radius c.levels xs (cells_of c log)) work new_steps
         → HasScan c log query radius steps work new_steps }
     ensures leaf { (dq : List ℕ) (radius levels : ℕ) (xs : List Shown) (leaves : List Leaf) (place : ℕ) (leaf : Leaf) → slice_get leaves place ≡ Some leaf

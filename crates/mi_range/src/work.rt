@@ -4,7 +4,7 @@ ghost use Rattle.arrayvec.specs.ArrayVec.{array_vec_len};
 ghost use Rattle.mi_base.specs.History.{row_cmp};
 ghost use Rattle.mi_base.specs.Sorting.{sorted};
 ghost use Rattle.mi_key.specs.Entries.{offering_of};
-ghost use Rattle.mi_rules.specs.Answers.{Measured};
+ghost use Rattle.mi_rules.specs.Answers.{AreMeasured};
 ghost use Rattle.mi_range.specs.Ranging.{TakesRange};
 
 use mi_base::{Dists, NoMemory, Position, Reply, Row, Rows, Steps, Vector, sort_rows};
@@ -26,9 +26,9 @@ pub struct RangeWork {
 
 impl Model for RangeWork {
     ghost use Rattle.std.specs.Prelude.{◌-◌, vec_capacity, vec_len};
-    ghost use Rattle.mi_range.specs.Ranging.{Ranging};
+    ghost use Rattle.mi_range.specs.Ranging.{RangeWorkState};
 
-    ghost Value = { Ranging };
+    ghost Value = { RangeWorkState };
 
     ghost view = { λ w. record { dists = w.dists.items; radius = w.radius; rows = w.rows.items; distances = w.distances; spare = vec_capacity w.rows - vec_len w.rows } };
 }
@@ -71,7 +71,7 @@ impl RangeWork {
         requires spare { 1 ≤ self.old.spare }
         requires query { IsTrue ((M.space metric.now).fits query.now) }
         requires object { IsTrue ((M.space metric.now).fits entry.now.vector) }
-        requires measured { Measured (M.space metric.now) query.now self.old.dists entry.now.vector entry.now.dists.items }
+        requires measured { AreMeasured (M.space metric.now) query.now self.old.dists entry.now.vector entry.now.dists.items }
         ensures taken { TakesRange (M.space metric.now) query.now self.old steps.old (offering_of entry.now ∷ []) self.new steps.new }
         ensures spare { self.old.spare ≤ self.new.spare + 1 }
     {

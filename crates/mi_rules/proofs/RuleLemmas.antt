@@ -23,7 +23,7 @@ use Rattle.mi_tree.specs.Counting.{in_hull}
 use Rattle.mi_rules.specs.Passing.{IsBound, double_pivot, hull_passes, lets_through, none_nearer, passes, range_pivot, rules_pass}
 use Rattle.mi_key.specs.Clusters.{cluster_of}
 use Rattle.mi_key.specs.declared.keys.KeyParts.{KeyParts}
-use Rattle.mi_rules.specs.Answers.{IsAnswer, MayHold, Measured}
+use Rattle.mi_rules.specs.Answers.{IsAnswer, MayHold, AreMeasured}
 use Rattle.mi_rules.specs.Spans.{cut, is_in_hull, is_in_span, is_near}
 
 -- from which radius on a hull is met
@@ -328,7 +328,7 @@ answer_near_all space query object r a (Some w) le leaf h empty hull some levels
     answer_near space query object w farther leaf h empty hull some levels key c d
 
 -- what the filter refuses is farther than the radius
-pub refused_far : (m : MetricSpace) → IsMetric m → (query object : List ℤ) (dq dists : List ℕ) (r : ℕ) → IsTrue (m.fits query) → IsTrue (m.fits object) → Measured m query dq object dists
+pub refused_far : (m : MetricSpace) → IsMetric m → (query object : List ℤ) (dq dists : List ℕ) (r : ℕ) → IsTrue (m.fits query) → IsTrue (m.fits object) → AreMeasured m query dq object dists
     → lets_through r dq dists ≡ false → nat_le (m.d query object) r ≡ false
 refused_far m is query object dq dists r fq fo me f =
     let through : m.d query object ≤ r → lets_through r dq dists ≡ true =

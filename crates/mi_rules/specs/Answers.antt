@@ -20,7 +20,7 @@ pub record MayHold (leaf : Leaf) (dists : List ℕ) : Type 0 where
   pub covered : in_hull (key_distance dists) leaf.hull ≡ true
 
 -- the distances of a query and of an object are those to one list of pivots that fit
-pub record Measured (m : MetricSpace) (query : List ℤ) (dq : List ℕ) (object : List ℤ) (dists : List ℕ) : Type 0 where
+pub record AreMeasured (m : MetricSpace) (query : List ℤ) (dq : List ℕ) (object : List ℤ) (dists : List ℕ) : Type 0 where
   pub pivots : List (List ℤ)
   pub pivots_fit : AllByRecursion (λ p. IsTrue (m.fits p)) pivots
   pub of_query : dq ≡ distances (record { metric = m; pivots = pivots }) query
@@ -30,4 +30,4 @@ pub record Measured (m : MetricSpace) (query : List ℤ) (dq : List ℕ) (object
 pub record Comparable (m : MetricSpace) (query : List ℤ) (dq : List ℕ) (object : List ℤ) (dists : List ℕ) : Type 0 where
   pub query_fits : IsTrue (m.fits query)
   pub object_fits : IsTrue (m.fits object)
-  pub measured : Measured m query dq object dists
+  pub measured : AreMeasured m query dq object dists
