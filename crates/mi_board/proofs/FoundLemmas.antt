@@ -1,6 +1,5 @@
 -- The leaf that was found.
 use Rattle.std.proofs.Common.{◌≡◌, ℕ, suc, zero, ◌+◌, take, drop, length, arith, add-one, not, List, [], ◌∷◌, Bool, true, false, IsTrue, cond, ◌&&◌, ◌||◌, refl, sym, ap, ◌∙◌, subst, Option, Some, None}
-use Rattle.std.specs.Prelude.{is_some}
 use Rattle.std.specs.List.{find, slice_get}
 use Rattle.std.proofs.lemmas.Bool.{and_parts, false≢true, or_right}
 use Rattle.mi_base.specs.Permutations.{begins}
@@ -88,10 +87,6 @@ second_part false b d h = absurd (false≢true h)
 pub find_free : (s : BoardState) (ls : List Leaf) (x : Leaf) → find (is_open s) ls ≡ Some x → is_claimed x.prefix s.actors ≡ false
 find_free s ls x h = second_part (is_wanted s.settings.levels s.settings.cell x) (is_claimed x.prefix s.actors) (not (is_passed x.prefix s)) (find_passes (is_open s) ls x h)
 
--- an open leaf is to be split
-pub find_wanted : (s : BoardState) (ls : List Leaf) (x : Leaf) → find (is_open s) ls ≡ Some x → is_wanted s.settings.levels s.settings.cell x ≡ true
-find_wanted s ls x h = (and_parts (is_wanted s.settings.levels s.settings.cell x) _ (find_passes (is_open s) ls x h)).0
-
 -- the leaf that is swept next is the first that was retired
 pub next_swept : (log : List LogEvent) (ps : List (List ℕ)) (p : List ℕ) → earliest_in log ps ≡ Some p → ps ≡ p ∷ drop 1 ps
 next_swept log [] p e = cc
@@ -114,12 +109,3 @@ pub is_free_open : (a b d : Bool) → (a && b) ≡ true → d ≡ false → (a &
 is_free_open true true d h k = ap not k
 is_free_open true false d h k = absurd (false≢true h)
 is_free_open false b d h k = absurd (false≢true h)
-
--- whether there is one, by the first that was retired
-pub sweep_is : (log : List LogEvent) (ps : List (List ℕ)) (p : List ℕ) → slice_get ps 0 ≡ Some p → was_split p log ≡ is_some (earliest_in log ps)
-sweep_is log [] p at = cc
-sweep_is log (q ∷ qs) p at =
-    let same : q ≡ p = cc in
-    let P : Bool → Type 0 = λ b. b ≡ is_some (cond b (Some q) None) in
-    let here : was_split q log ≡ is_some (cond (was_split q log) (Some q) None) = elim (was_split q log) as P [ true ↦ refl | false ↦ refl ] in
-    subst (λ (x : List ℕ). was_split x log ≡ is_some (cond (was_split q log) (Some q) None)) same here

@@ -4,5 +4,6 @@ pub mod CrowdLemmas
 pub mod FloorLemmas
 pub mod FoundLemmas
 pub mod MarkLemmas
+pub mod RetiredLemmas
 pub mod StepLemmas
 pub mod ConditionLemmas

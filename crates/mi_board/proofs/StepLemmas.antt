@@ -2,7 +2,7 @@
 use Rattle.std.proofs.Common.{◌≡◌, ℕ, ℤ, suc, zero, ◌+◌, ◌<◌, ◌≤◌, List, [], ◌∷◌, ◌++◌, map, length, true, false, IsTrue, refl, sym, ap, ◌∙◌, subst, arith, length-append, Bool, not, Option, Some}
 use Rattle.std.specs.Prelude.{replicate}
 use Rattle.std.proofs.lemmas.List.{length-map, length-replicate}
-use Rattle.std.specs.List.{filter, flat_map}
+use Rattle.std.specs.List.{AllByRecursion, filter, flat_map}
 use Rattle.mi_base.specs.declared.records.LogEvent.{LogEvent}
 use Rattle.mi_base.specs.declared.records.LogEvent.TheVariants.{Update as Made, Split}
 use Rattle.mi_base.specs.declared.records.Position.{Position}
@@ -16,7 +16,9 @@ use Rattle.mi_board.specs.declared.actors.ActorState.{ActorState}
 use Rattle.mi_board.specs.Actors.{actor_at, idle, change, with_claim, without_claim, with_reserved, is_claimed}
 use Rattle.mi_board.specs.declared.shared.KeptCatalog.{KeptCatalog}
 use Rattle.mi_board.specs.Boards.{BoardState, cells_in}
-use Rattle.mi_board.specs.Kept.{ClaimsStand, HoldsBoard, IsBoard, IsShared}
+use Rattle.mi_board.specs.declared.retired.RetiredLeaf.{RetiredLeaf}
+use Rattle.mi_board.specs.Kept.{ClaimsStand, HoldsBoard, IsBoard, IsRetired, IsShared}
+use Rattle.mi_board.proofs.RetiredLemmas.{not_before, retired_last, retired_more}
 use Rattle.mi_board.specs.Marks.{marked, split_marks}
 use Rattle.mi_board.proofs.FloorLemmas.{shared_more}
 use Rattle.mi_board.proofs.MarkLemmas.{length-split_marks, marked-split}
@@ -137,17 +139,18 @@ pub prefixes_same : (g : Leaf → Leaf) → ((l : Leaf) → (g l).prefix ≡ l.p
 prefixes_same g same [] = refl
 prefixes_same g same (l ∷ ls) = let e = same l in let r = prefixes_same g same ls in cc
 
-module _ (c : Configuration) (log : List LogEvent) (catalog : CatalogState) (updates : ℕ) (actors : List ActorState) (room : ℕ) (marks : List Bool) (allotted : ℕ) (kept : Option KeptCatalog)
-    (h : HoldsBoard c log catalog updates actors room marks allotted kept) where
+module _ (c : Configuration) (log : List LogEvent) (catalog : CatalogState) (updates : ℕ) (actors : List ActorState) (room : ℕ) (marks : List Bool) (allotted : ℕ) (kept : Option KeptCatalog) (retired : List RetiredLeaf)
+    (h : HoldsBoard c log catalog updates actors room marks allotted kept retired) where
   -- an update that the actor had reserved, by a change of the leaves that keeps their prefixes
   pub update_holds : (actor op : ℕ) (u : Update) → (actor_at actors actor).reserved ≡ true → LegalLog c (log ++ Made actor op u ∷ []) → (g : Leaf → Leaf) → ((l : Leaf) → (g l).prefix ≡ l.prefix)
       → map g (cells_of c log) ≡ cells_of c (log ++ Made actor op u ∷ []) → (log' : List LogEvent) → log' ≡ log ++ Made actor op u ∷ [] → (catalog' : CatalogState) → catalog' ≡ record catalog { leaves = map g catalog.leaves }
-      → (updates' : ℕ) → updates' ≡ updates + 1 → (actors' : List ActorState) → actors' ≡ change (with_reserved false) actor actors → (room' : ℕ) → room ≤ room' → HoldsBoard c log' catalog' updates' actors' room' marks allotted kept
+      → (updates' : ℕ) → updates' ≡ updates + 1 → (actors' : List ActorState) → actors' ≡ change (with_reserved false) actor actors → (room' : ℕ) → room ≤ room' → HoldsBoard c log' catalog' updates' actors' room' marks allotted kept retired
   update_holds actor op u given legal g same now log' log_is catalog' catalog_is updates' updates_is actors' actors_is room' more = record {
     board = update_board c log catalog updates actors room h.board actor op u given legal g same now log' log_is catalog' catalog_is updates' updates_is actors' actors_is room' more;
     each = h.each ∙ sym (ap (λ (k : CatalogState). length k.leaves) catalog_is ∙ length-map catalog.leaves g);
     pages = h.pages;
     shared = subst (λ (l : List LogEvent). IsShared c l kept) (sym log_is) (shared_more c log (Made actor op u ∷ []) kept h.shared);
+    retired_are = subst (λ (l : List LogEvent). AllByRecursion (IsRetired l) retired) (sym log_is) (retired_more log (Made actor op u ∷ []) retired h.retired_are);
   }
 
   -- a split
@@ -155,14 +158,17 @@ module _ (c : Configuration) (log : List LogEvent) (catalog : CatalogState) (upd
       → SameElements objects (map (placed_object (grid c)) (filter (belongs (grid c) p) (live (updates_of log))))
       → (log' : List LogEvent) → log' ≡ log ++ Split p ∷ [] → (catalog' : CatalogState) → catalog' ≡ record catalog { leaves = flat_map (split_leaf catalog.pivots p objects) catalog.leaves }
       → (actors' : List ActorState) → actors' ≡ change without_claim actor actors → (room' : ℕ) → length log + (reserved actors + 1) ≤ room'
-      → (marks' : List Bool) → marks' ≡ split_marks catalog.pivots p (prefixes_of catalog.leaves) marks → HoldsBoard c log' catalog' updates actors' room' marks' allotted kept
-  publish_holds p objects actor claims wanted are log' log_is catalog' catalog_is actors' actors_is room' space marks' marks_is = record {
+      → (marks' : List Bool) → marks' ≡ split_marks catalog.pivots p (prefixes_of catalog.leaves) marks
+      → (retired' : List RetiredLeaf) → retired' ≡ retired ++ record { prefix = p; event = length log } ∷ [] → HoldsBoard c log' catalog' updates actors' room' marks' allotted kept retired'
+  publish_holds p objects actor claims wanted are log' log_is catalog' catalog_is actors' actors_is room' space marks' marks_is retired' retired_is = record {
     board = publish_board c log catalog updates actors room h.board p objects actor claims wanted are log' log_is catalog' catalog_is actors' actors_is room' space;
     each = ap length marks_is ∙ length-split_marks catalog.pivots p (prefixes_of catalog.leaves) marks (h.each ∙ sym (length-map catalog.leaves (λ (l : Leaf). l.prefix)))
         ∙ sym (ap length (prefixes_parted catalog.pivots p objects catalog.leaves)) ∙ length-map (flat_map (split_leaf catalog.pivots p objects) catalog.leaves) (λ (l : Leaf). l.prefix)
         ∙ sym (ap (λ (k : CatalogState). length k.leaves) catalog_is);
     pages = h.pages;
     shared = subst (λ (l : List LogEvent). IsShared c l kept) (sym log_is) (shared_more c log (Split p ∷ []) kept h.shared);
+    retired_are = subst (λ (l : List LogEvent). AllByRecursion (IsRetired l) retired') (sym log_is)
+        (subst (AllByRecursion (IsRetired (log ++ Split p ∷ []))) (sym retired_is) (retired_last log p (not_before c h.board.limits log h.board.legal p wanted) retired h.retired_are));
   }
 
   -- the other marked leaves are left

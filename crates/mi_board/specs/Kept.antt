@@ -1,10 +1,13 @@
 -- What holds of every board.
-use Rattle.std.specs.Prelude.{count_by, ◌≡◌, ◌≤◌, ◌+◌, ℕ, List, [], ◌∷◌, Bool, length, true, false, Some, Option, None}
+use Rattle.std.specs.Prelude.{count_by, nat_lt, take, ◌≡◌, ◌<◌, ◌≤◌, ◌+◌, ℕ, List, [], ◌∷◌, Bool, length, true, false, Some, Option, None}
 use Rattle.std.specs.Arc.{arc_value}
+use Rattle.std.specs.List.{AllByRecursion}
+use Rattle.mi_tree.specs.Births.{was_split}
 use Rattle.mi_base.specs.declared.records.LogEvent.{LogEvent}
 use Rattle.mi_base.specs.Configuration.{Configuration, IsWithinLimits}
 use Rattle.mi_base.specs.History.{IsPosition, at_position, updates_of}
 use Rattle.mi_board.specs.declared.actors.ActorState.{ActorState}
+use Rattle.mi_board.specs.declared.retired.RetiredLeaf.{RetiredLeaf}
 use Rattle.mi_board.specs.declared.shared.KeptCatalog.{KeptCatalog}
 use Rattle.mi_board.specs.Actors.{is_claimed}
 use Rattle.mi_board.specs.Boards.{cells_in}
@@ -38,9 +41,16 @@ abbrev pub IsShared : Configuration → List LogEvent → Option KeptCatalog →
 IsShared c log None = Unit {0}
 IsShared c log (Some k) = IsPosition log k.at × (arc_value k.catalog ≡ cells_in c (at_position log k.at))
 
--- beside that, each leaf has a mark that says whether it is passed over, no more pages are allotted than may be, and the kept catalog stands
-pub record HoldsBoard (c : Configuration) (log : List LogEvent) (catalog : CatalogState) (updates : ℕ) (actors : List ActorState) (room : ℕ) (marks : List Bool) (allotted : ℕ) (kept : Option KeptCatalog) : Type 0 where
+-- the leaf was split by the event at this place of the log, and by no other
+pub record IsRetired (log : List LogEvent) (r : RetiredLeaf) : Type 0 where
+  pub there : r.event < length log
+  pub split : (n : ℕ) → was_split r.prefix (take n log) ≡ nat_lt r.event n
+
+-- beside that, each leaf has a mark that says whether it is passed over, no more pages are allotted than may be, the kept catalog stands, and the
+-- retired leaves were split where they say
+pub record HoldsBoard (c : Configuration) (log : List LogEvent) (catalog : CatalogState) (updates : ℕ) (actors : List ActorState) (room : ℕ) (marks : List Bool) (allotted : ℕ) (kept : Option KeptCatalog) (retired : List RetiredLeaf) : Type 0 where
   pub board : IsBoard c log catalog updates actors room
   pub each : length marks ≡ length catalog.leaves
   pub pages : allotted ≤ c.pages
   pub shared : IsShared c log kept
+  pub retired_are : AllByRecursion (IsRetired log) retired

@@ -8,11 +8,10 @@ ghost use Rattle.mi_base.specs.History.{end_of, events_at};
 ghost use Rattle.mi_board.specs.Actors.{actor_at, gone, idle, is_claim, is_claimed, with_reserved, without_claim, without_pin};
 ghost use Rattle.mi_board.specs.Boards.{AddsActor, Allots, ClaimsLeaf, Commits, GivesWork, Grows, MayCommit, MayDelete, MayInsert, MayPublish, Publishes, Reserves, cells_in, crowded_at, floor_of, given_up, is_kept_at, leaf_claimed, leaves_copied, look_of, next_split, next_sweep, open_count, opened_board, passing, pinned, same_position, with_actor};
 ghost use Rattle.mi_board.specs.Floors.{earlier};
-ghost use Rattle.mi_tree.specs.Births.{is_split_of, was_split};
 ghost use Rattle.mi_tree.specs.Counting.{is_crowded, is_wanted};
 ghost use Rattle.mi_tree.specs.Legal.{LegalLog};
 
-use crate::{ActorState, KeptCatalog, marks};
+use crate::{ActorState, KeptCatalog, RetiredLeaf, marks};
 use mi_base::{
     Id, Log, LogEvent, NoMemory, Perm, Position, Prefix, Settings, Steps, Update, Vector,
 };
@@ -39,7 +38,7 @@ pub struct Board {
     updates: u32,
     catalog: Catalog,
     actors: Vec<ActorState>,
-    retired: VecDeque<Prefix>,
+    retired: VecDeque<RetiredLeaf>,
     // For each leaf, whether it is passed over: so it is found by a search, and takes no memory.
     marks: Vec<bool>,
     root: u32,
@@ -50,7 +49,7 @@ pub struct Board {
 }
 
 impl Model for Board {
-    ghost use Rattle.std.specs.Prelude.{option_map};
+    ghost use Rattle.std.specs.Prelude.{map, option_map};
     ghost use Rattle.std.specs.Vec.{vec_capacity};
     ghost use Rattle.mi_board.specs.Boards.{BoardState};
     ghost use Rattle.mi_board.specs.Kept.{HoldsBoard};
@@ -63,7 +62,7 @@ impl Model for Board {
       settings = b.settings;
       log = b.events.items;
       actors = b.actors.items;
-      retired = b.retired.items;
+      retired = map (λ r. r.prefix) b.retired.items;
       passed_over = marked (prefixes_of b.catalog.leaves) b.marks.items;
       root = b.root;
       height = b.height;
@@ -71,7 +70,7 @@ impl Model for Board {
       kept_at = option_map (λ k. k.at) b.kept;
     } };
 
-    ghost invariant = { λ b. HoldsBoard b.settings b.events.items b.catalog b.updates b.actors.items (vec_capacity b.events) b.marks.items b.allotted b.kept };
+    ghost invariant = { λ b. HoldsBoard b.settings b.events.items b.catalog b.updates b.actors.items (vec_capacity b.events) b.marks.items b.allotted b.kept b.retired.items };
 }
 
 impl Board {
@@ -381,7 +380,12 @@ impl Board {
             &prefix,
             objects,
         )?;
-        self.retired.push_back(prefix.copy()).unwrap();
+        self.retired
+            .push_back(RetiredLeaf {
+                prefix: prefix.copy(),
+                event: self.events.len() as u32,
+            })
+            .unwrap();
         self.events.push(LogEvent::Split { prefix }).unwrap();
         self.actors[actor as usize].claim = None;
         Ok(self.end())
@@ -517,7 +521,7 @@ impl Board {
         if !self.may_sweep() {
             return None;
         }
-        self.retired.pop_front()
+        self.retired.pop_front().map(|leaf| leaf.prefix)
     }
 
     /// A leaf was split, and the floor has the split of the one that was split first.
@@ -525,11 +529,7 @@ impl Board {
         ensures { result ≡ is_some (next_sweep self.now) }
     {
         match self.retired.front() {
-            Some(prefix) => {
-                let floor = self.floor();
-                let events = floor.updates as usize + floor.splits as usize;
-                was_split(prefix, &self.events[..events])
-            }
+            Some(leaf) => u64::from(leaf.event) < events_at(self.floor()),
             None => false,
         }
     }
@@ -655,21 +655,4 @@ fn events_at(at: Position) -> u64
     ensures { result ≡ events_at at }
 {
     u64::from(at.updates) + u64::from(at.splits)
-}
-
-/// The leaf of this prefix was split in these events.
-fn was_split(prefix: &Prefix, events: &[LogEvent]) -> bool
-    ensures { result ≡ was_split prefix.now events.now }
-{
-    events.iter().any(|event| is_split_of(event, prefix))
-}
-
-/// The event is the split of the leaf of this prefix.
-fn is_split_of(event: &LogEvent, prefix: &Prefix) -> bool
-    ensures { result ≡ is_split_of prefix.now event.now }
-{
-    match event {
-        LogEvent::Split { prefix: split } => is_same(prefix, split),
-        LogEvent::Update { .. } => false,
-    }
 }

@@ -10,7 +10,7 @@ ghost use Rattle.mi_board.specs.Boards.{MayCommit, grid_in};
 ghost use Rattle.mi_tree.specs.Counting.{belongs, placed_object};
 ghost use Rattle.mi_tree.specs.Legal.{MayFollow};
 
-use crate::Board;
+use crate::{Board, Pinned};
 use mi_base::{Id, LogEvent, MetricKind, NoMemory, Perm, Position, Prefix, Steps, Update, Vector};
 use mi_metric::{L1, Metric};
 use mi_perm::{Pivots, key_distance, permutation};
@@ -178,6 +178,50 @@ pub fn next_work(board: &mut Board, actor: u32) -> Option<Work> {
         return None;
     }
     Some(board.next_work(actor))
+}
+
+pub fn pin<L: Ledger>(
+    alloc: Global,
+    blank: Blank,
+    board: &mut Board,
+    actor: u32,
+) -> Result<Option<Pinned>, NoMemory>
+    requires name { blank.name ≡ L.name }
+    requires parts { blank.parts ≡ L.parts }
+    requires some { 0 < blank.parts }
+{
+    if actor as usize >= board.actors() || board.pin_of(actor).is_some() {
+        return Ok(None);
+    }
+    let pinned = board.pin(alloc, actor, &mut Steps::<L>::new(blank))?;
+    Ok(Some(pinned))
+}
+
+pub fn unpin(board: &mut Board, actor: u32) -> Option<()> {
+    if actor as usize >= board.actors() || board.pin_of(actor).is_none() {
+        return None;
+    }
+    board.unpin(actor);
+    Some(())
+}
+
+pub fn give_up(board: &mut Board, actor: u32, pages: bool) -> Option<()> {
+    if actor as usize >= board.actors() || board.claim(actor).is_none() {
+        return None;
+    }
+    if pages && board.allotted() != board.settings().pages {
+        return None;
+    }
+    board.give_up(actor, pages);
+    Some(())
+}
+
+pub fn depart(board: &mut Board, actor: u32) -> Option<()> {
+    if actor as usize >= board.actors() {
+        return None;
+    }
+    board.depart(actor);
+    Some(())
 }
 
 pub fn insert(

@@ -4,10 +4,12 @@
 mod actors;
 mod boards;
 mod marks;
+mod retired;
 mod shared;
 
 pub use actors::ActorState;
 pub use boards::{Board, Pinned};
+pub use retired::RetiredLeaf;
 pub use shared::KeptCatalog;
 
 #[cfg(test)]

@@ -24,13 +24,28 @@ pub enum Event {
     },
 }
 
+/// What an actor holds: its pin is the number of the events that it names.
 #[derive(Drop)]
 struct Holder {
     claim: Option<Prefix>,
     reserved: bool,
+    pin: Option<usize>,
+    departed: bool,
 }
 
-/// The events, what each actor holds, and how many retired leaves were swept.
+impl Holder {
+    fn idle() -> Holder {
+        Holder {
+            claim: None,
+            reserved: false,
+            pin: None,
+            departed: false,
+        }
+    }
+}
+
+/// The events, what each actor holds, how many retired leaves were swept, which leaves were passed over, where the pages stand,
+/// and how many events the catalog of the latest pin has.
 #[derive(Drop)]
 pub struct Plain {
     pivots: usize,
@@ -39,6 +54,11 @@ pub struct Plain {
     events: Vec<Event>,
     holders: Vec<Holder>,
     swept: usize,
+    passed: Vec<Prefix>,
+    pub root: u32,
+    pub height: u32,
+    pub allotted: u32,
+    pub kept: Option<usize>,
 }
 
 impl Event {
@@ -108,10 +128,7 @@ impl Plain {
     pub fn open(alloc: Global, pivots: usize, levels: u32, cell: u32) -> Result<Plain, NoMemory> {
         let mut holders = Vec::new(alloc);
         for _ in 0..2 {
-            holders.push(Holder {
-                claim: None,
-                reserved: false,
-            })?;
+            holders.push(Holder::idle())?;
         }
         Ok(Plain {
             pivots,
@@ -120,7 +137,80 @@ impl Plain {
             events: Vec::new(alloc),
             holders,
             swept: 0,
+            passed: Vec::new(alloc),
+            root: 0,
+            height: 0,
+            allotted: 1,
+            kept: None,
         })
+    }
+
+    pub fn add_actor(&mut self) -> Result<(), NoMemory> {
+        self.holders.push(Holder::idle())?;
+        Ok(())
+    }
+
+    pub fn actors(&self) -> u32 {
+        self.holders.len() as u32
+    }
+
+    pub fn open_actors(&self) -> usize {
+        self.holders
+            .iter()
+            .filter(|holder| !holder.departed)
+            .count()
+    }
+
+    pub fn depart(&mut self, actor: u32) {
+        if let Some(holder) = self.holders.get_mut(actor as usize) {
+            holder.departed = true;
+        }
+    }
+
+    pub fn pin(&self, actor: u32) -> Option<usize> {
+        self.holders.get(actor as usize)?.pin
+    }
+
+    pub fn change_pin(&mut self, actor: u32, pin: Option<usize>) {
+        if let Some(holder) = self.holders.get_mut(actor as usize) {
+            holder.pin = pin;
+        }
+    }
+
+    /// How many events the floor has.
+    pub fn floor(&self) -> usize {
+        let mut floor = self.events.len();
+        for holder in &self.holders {
+            if let Some(pin) = holder.pin {
+                floor = floor.min(pin);
+            }
+        }
+        floor
+    }
+
+    /// How many of the first events are updates.
+    pub fn updates_to(&self, events: usize) -> usize {
+        self.events
+            .iter()
+            .take(events)
+            .filter(|event| event.is_update())
+            .count()
+    }
+
+    /// Passes over the leaf that the actor claims, and ends the claim.
+    pub fn give_up(&mut self, actor: u32, pages: bool) -> Result<(), NoMemory> {
+        if let Some(holder) = self.holders.get_mut(actor as usize) {
+            if let Some(prefix) = holder.claim.take() {
+                if pages {
+                    self.passed.push(prefix)?;
+                }
+            }
+        }
+        Ok(())
+    }
+
+    fn is_passed(&self, leaf: &[u8]) -> bool {
+        self.passed.iter().any(|prefix| prefix.as_slice() == leaf)
     }
 
     pub fn len(&self) -> usize {
@@ -132,7 +222,7 @@ impl Plain {
     }
 
     pub fn is_full(&self) -> bool {
-        self.updates() >= 60
+        self.updates() >= 40
     }
 
     /// The event at a place is this one of a board's log.
@@ -241,7 +331,7 @@ impl Plain {
         leaf.len() < self.levels && self.count(leaf) > self.cell
     }
 
-    /// The least leaf that is to be split and that nobody claims: some live object belongs to it.
+    /// The least leaf that is to be split, that nobody claims, and that wasn't passed over: some live object belongs to it.
     pub fn first_wanted(&self) -> Option<&[u8]> {
         let mut first: Option<&[u8]> = None;
         for place in 0..self.events.len() {
@@ -251,7 +341,8 @@ impl Plain {
                     Some(earlier) => earlier <= leaf,
                     None => false,
                 };
-                if !later && self.is_wanted(leaf) && self.claimant(leaf).is_none() {
+                let free = self.claimant(leaf).is_none() && !self.is_passed(leaf);
+                if !later && free && self.is_wanted(leaf) {
                     first = Some(leaf);
                 }
             }
@@ -259,10 +350,10 @@ impl Plain {
         first
     }
 
-    /// The leaf that was split first among those that weren't swept.
+    /// The leaf that was split first among those that weren't swept, if the floor has its split.
     pub fn retired(&self) -> Option<&[u8]> {
         let mut left = self.swept;
-        for event in &self.events {
+        for event in self.events.iter().take(self.floor()) {
             if let Event::Split { prefix } = event {
                 if left == 0 {
                     return Some(prefix.as_slice());
@@ -293,7 +384,7 @@ impl Plain {
 
     /// Who claims this leaf.
     pub fn claimant(&self, leaf: &[u8]) -> Option<u32> {
-        for actor in 0..2 {
+        for actor in 0..self.actors() {
             if self.claim(actor) == Some(leaf) {
                 return Some(actor);
             }
@@ -350,6 +441,11 @@ impl Plain {
             Some(prefix) => Some(prefix.as_slice()),
             None => None,
         };
-        claim == self.claim(actor) && board.has_reserved(actor) == self.has_reserved(actor)
+        let pin = match board.pin_of(actor) {
+            Some(at) => Some(at.updates as usize + at.splits as usize),
+            None => None,
+        };
+        let held = claim == self.claim(actor) && pin == self.pin(actor);
+        held && board.has_reserved(actor) == self.has_reserved(actor)
     }
 }

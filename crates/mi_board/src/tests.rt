@@ -7,9 +7,14 @@ use crate::plain::{Event, Plain};
 use mi_base::{Id, MetricKind, Settings, TableRows, Vector, VectorList};
 use mi_metric::L1;
 use mi_perm::Pivots;
-use mi_tree::{CommitRefusal, LeafClaim, Look, Placed, ReserveRefusal, Work};
+use mi_tree::{
+    AllotRefusal, Catalog, CommitRefusal, LeafClaim, Look, Placed, ReserveRefusal, Work,
+};
 use std::alloc::Global;
+use std::marker::Brand;
 use std::process::Abort;
+use std::sync::Arc;
+use std::sync::ledger::Blank;
 use std::test::Fail;
 
 /// Numbers by a fixed rule.
@@ -42,6 +47,19 @@ struct Seen {
     sweep: bool,
     split: bool,
     idle: bool,
+    shared: bool,
+    late_sweep: bool,
+    pages_full: bool,
+    passed: bool,
+}
+
+/// A catalog that a pin gave, with how many leaves it had and how many objects these counted.
+#[derive(Drop)]
+struct Given {
+    actor: u32,
+    catalog: Arc<Catalog, Global>,
+    leaves: usize,
+    objects: u64,
 }
 
 /// A board, and the plain program after the same calls.
@@ -50,6 +68,7 @@ struct Trial {
     alloc: Global,
     board: Board,
     plain: Plain,
+    given: Vec<Given>,
     draws: Draws,
     seen: Seen,
 }
@@ -77,7 +96,7 @@ fn line(
         pivots: list,
         levels,
         cell,
-        updates: 60,
+        updates: 40,
         pages: 4,
     })
 }
@@ -98,7 +117,7 @@ fn reserve(rt: &impl Abort, trial: &mut Trial, actor: u32) {
             trial.plain.reserve(actor, true);
         }
         Err(refusal) => {
-            assert_eq!(rt; refusal, ReserveRefusal::Full { limit: 60 });
+            assert_eq!(rt; refusal, ReserveRefusal::Full { limit: 40 });
             assert!(rt; trial.plain.is_full());
             trial.seen.full = true;
         }
@@ -136,6 +155,8 @@ fn next_work(rt: &impl Abort, trial: &mut Trial, actor: u32) {
         None => assert!(rt; trial.plain.claim(actor).is_some()),
         Some(Work::Sweep { prefix }) => {
             assert_eq!(rt; Some(prefix.as_slice()), trial.plain.retired());
+            trial.seen.late_sweep = trial.seen.late_sweep
+                || trial.plain.floor() < trial.plain.len();
             trial.plain.sweep();
             trial.seen.sweep = true;
         }
@@ -169,7 +190,7 @@ fn entered(
             trial.plain.reserve(actor, false);
         }
         Err(CommitRefusal::Full { limit }) => {
-            assert!(rt; trial.plain.is_full() && limit == 60);
+            assert!(rt; trial.plain.is_full() && limit == 40);
             trial.seen.late = true;
         }
         Err(CommitRefusal::Crowded) => {
@@ -228,17 +249,122 @@ fn publish(rt: &impl Abort, trial: &mut Trial, actor: u32) -> Result<(), Fail> {
     Ok(())
 }
 
+/// How many objects a catalog counts.
+fn objects_of(catalog: &Catalog) -> u64 {
+    let mut objects: u64 = 0;
+    for place in 0..catalog.len() {
+        objects = objects.saturating_add(u64::from(catalog.leaf(place).count));
+    }
+    objects
+}
+
+fn pin(rt: &impl Abort, trial: &mut Trial, actor: u32) -> Result<(), Fail> {
+    let end = trial.plain.len();
+    let pinned = conditions::pin::<Brand>(trial.alloc, Blank::new(1), &mut trial.board, actor)?;
+    assert_eq!(rt; pinned.is_some(), trial.plain.pin(actor).is_none());
+    let Some((look, catalog)) = pinned else {
+        return Ok(())
+    };
+    trial.plain.change_pin(actor, Some(end));
+    assert_eq!(rt; look, trial.board.look());
+    trial.seen.shared = trial.seen.shared || trial.plain.kept == Some(end);
+    trial.plain.kept = Some(end);
+    let leaves = catalog.len();
+    let objects = objects_of(&catalog);
+    assert_eq!(rt;
+        (leaves, objects),
+        (trial.plain.leaves(), objects_of(trial.board.catalog()))
+    );
+    trial.given.push(Given {
+        actor,
+        catalog,
+        leaves,
+        objects,
+    })?;
+    Ok(())
+}
+
+fn unpin(rt: &impl Abort, trial: &mut Trial, actor: u32) {
+    let pins = trial.plain.pin(actor).is_some();
+    assert_eq!(rt; conditions::unpin(&mut trial.board, actor).is_some(), pins);
+    trial.plain.change_pin(actor, None);
+    for given in &trial.given {
+        assert_eq!(rt; given.catalog.len(), given.leaves);
+        assert_eq!(rt; objects_of(&given.catalog), given.objects);
+    }
+    trial.given.retain(|given| given.actor != actor);
+}
+
+/// A page, a root above the others, or none.
+fn allot(rt: &impl Abort, trial: &mut Trial) {
+    match trial.board.allot() {
+        Ok(page) => {
+            assert_eq!(rt; page, trial.plain.allotted);
+            trial.plain.allotted = trial.plain.allotted.saturating_add(1);
+        }
+        Err(refusal) => {
+            assert_eq!(rt; refusal, AllotRefusal::PagesFull { limit: 4 });
+            assert_eq!(rt; trial.plain.allotted, 4);
+            trial.seen.pages_full = true;
+        }
+    }
+    let level = trial.draws.below(4);
+    let grows = level == trial.plain.height.saturating_add(1);
+    assert_eq!(rt; trial.board.grow(level, 9), grows);
+    if grows {
+        trial.plain.root = 9;
+        trial.plain.height = level;
+    }
+}
+
+fn give_up(rt: &impl Abort, trial: &mut Trial, actor: u32, pages: bool) -> Result<(), Fail> {
+    let may = trial.plain.claim(actor).is_some() && (!pages || trial.plain.allotted == 4);
+    assert_eq!(rt;
+        conditions::give_up(&mut trial.board, actor, pages).is_some(),
+        may
+    );
+    if may {
+        trial.plain.give_up(actor, pages)?;
+        trial.seen.passed = trial.seen.passed || pages;
+    }
+    Ok(())
+}
+
+/// One actor more, or one that departs.
+fn come_or_go(rt: &impl Abort, trial: &mut Trial, actor: u32) -> Result<(), Fail> {
+    if trial.plain.actors() < 3 {
+        assert_eq!(rt; trial.board.add_actor()?, trial.plain.actors());
+        trial.plain.add_actor()?;
+    }
+    assert!(rt; conditions::depart(&mut trial.board, actor).is_some());
+    trial.plain.depart(actor);
+    Ok(())
+}
+
 /// The board is what the plain program says: its log, its leaves, its actors, its look.
 fn same(rt: &impl Abort, trial: &Trial) {
     let look = trial.board.look();
+    let floor = trial.plain.floor();
     assert_eq!(rt;
-        look,
-        Look {
-            at: look.at,
-            root: 0,
-            height: 0,
-            floor: look.at
-        }
+        (look.root, look.height),
+        (trial.plain.root, trial.plain.height)
+    );
+    assert_eq!(rt; look.floor.updates as usize, trial.plain.updates_to(floor));
+    assert_eq!(rt;
+        look.floor.updates as usize + look.floor.splits as usize,
+        floor
+    );
+    assert_eq!(rt; trial.board.allotted(), trial.plain.allotted);
+    assert_eq!(rt;
+        trial.board.open_actors() as usize,
+        trial.plain.open_actors()
+    );
+    assert_eq!(rt;
+        trial
+            .board
+            .kept_at()
+            .map(|at| at.updates as usize + at.splits as usize),
+        trial.plain.kept
     );
     assert_eq!(rt; look.at.updates as usize, trial.plain.updates());
     assert_eq!(rt; trial.board.log().len(), trial.plain.len());
@@ -259,29 +385,37 @@ fn same(rt: &impl Abort, trial: &Trial) {
             "leaf {place}"
         );
     }
-    for actor in 0..2 {
+    for actor in 0..trial.plain.actors() {
         assert!(rt; trial.plain.has_actor(actor, &trial.board), "actor {actor}");
     }
 }
 
 fn turn(rt: &impl Abort, trial: &mut Trial, op: u32) -> Result<(), Fail> {
-    let actor = trial.draws.below(2);
+    let actor = trial.draws.below(trial.plain.actors().max(1));
     let object = object(rt, &mut trial.draws);
     let place = conditions::placed_at(rt, trial.alloc, &trial.board, &object.vector)?;
-    match trial.draws.below(16) {
+    match trial.draws.below(24) {
         0 => release(rt, trial, actor),
         1 => next_work(rt, trial, actor),
         2 => publish(rt, trial, actor)?,
+        10 => pin(rt, trial, actor)?,
+        11 => unpin(rt, trial, actor),
+        12 => allot(rt, trial),
+        13 => give_up(rt, trial, actor, true)?,
+        14 => come_or_go(rt, trial, actor)?,
+        15 => give_up(rt, trial, actor, false)?,
         3..=5 => claim(rt, trial, actor, &place),
         6..=8 => reserve(rt, trial, actor),
         9 => delete(rt, trial, actor, op, object.id)?,
         _ => insert(rt, trial, actor, op, &object)?,
     }
-    same(rt, trial);
+    if op % 8 == 0 {
+        same(rt, trial);
+    }
     Ok(())
 }
 
-/// So many turns of two actors, and which answers have come by then.
+/// So many turns of two or three actors, and which answers have come by then.
 fn run(
     rt: &impl Abort,
     alloc: Global,
@@ -294,6 +428,7 @@ fn run(
         alloc,
         board,
         plain: Plain::open(alloc, settings.pivots.len(), settings.levels, settings.cell)?,
+        given: Vec::new(alloc),
         draws: Draws { state: 7 },
         seen,
     };
@@ -317,7 +452,7 @@ fn random_calls_keep_the_definitions(rt: HostRuntime) -> Result<(), Fail> {
     ];
     for (places, levels, cell) in table {
         let settings = line(&rt, rt.alloc(), places, levels, cell)?;
-        seen = run(&rt, rt.alloc(), &settings, 6000, seen)?;
+        seen = run(&rt, rt.alloc(), &settings, 3000, seen)?;
     }
     let all = Seen {
         full: true,
@@ -327,6 +462,10 @@ fn random_calls_keep_the_definitions(rt: HostRuntime) -> Result<(), Fail> {
         sweep: true,
         split: true,
         idle: true,
+        shared: true,
+        late_sweep: true,
+        pages_full: true,
+        passed: true,
     };
     assert_eq!(rt; seen, all);
     Ok(())

@@ -16,4 +16,5 @@ invariant_of-self-2 c =
       each = h.each;
       pages = h.pages;
       shared = h.shared;
+      retired_are = h.retired_are;
     }

@@ -34,6 +34,7 @@ invariant_of-self c =
       each = h.each;
       pages = h.pages;
       shared = h.shared;
+      retired_are = h.retired_are;
     }
 
 pub returns : goal.returns

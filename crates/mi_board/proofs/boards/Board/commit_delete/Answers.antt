@@ -53,7 +53,7 @@ invariant_of-self c =
     let perm_is = one_perm (grid b.settings).perm c.args.id c.args.perm.now (live (updates_of b.events.items)) object lives in
     let legal = delete_legal b.settings ib.limits b.events.items ib.legal c.args.id object c.args.actor c.args.op (omega (arith, c.if-self-limit.false, c.limit_of-limit.ensures, ib.counted)) in
     let now = ap (λ (q : List ℕ). map (with_removed q) (cells_of b.settings b.events.items)) perm_is ∙ sym (delete_cells b.settings ib.limits b.events.items ib.legal c.args.id object c.args.actor c.args.op) in
-    update_holds _ _ _ _ _ _ _ _ _ h c.args.actor c.args.op (Delete c.args.id) may.reserved legal (with_removed perm) (removed_prefix perm) now
+    update_holds _ _ _ _ _ _ _ _ _ _ h c.args.actor c.args.op (Delete c.args.id) may.reserved legal (with_removed perm) (removed_prefix perm) now
     _ c.enter.ensures.events _ c.remove.ensures _ c.enter.ensures.updates _ actors_is _ c.enter.ensures.room
 
 pub returns : goal.returns

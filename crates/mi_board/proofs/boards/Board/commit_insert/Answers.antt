@@ -67,7 +67,7 @@ invariant_of-self c =
     let named : id < 2 ^ 40 = omega (arith, c.get.ensures.same, c.get.ensures.small) in
     let legal = insert_legal b.settings ib.limits b.events.items ib.legal c.args.actor c.args.op id v object.fits object.absent named (omega (arith, c.if-self-limit.false, c.limit_of-limit.ensures, ib.counted)) calm in
     let log_is = c.enter.ensures.events ∙ ap (λ x. b.events.items ++ Made c.args.actor c.args.op (Insert id x) ∷ []) c.copy.ensures in
-    update_holds _ _ _ _ _ _ _ _ _ h c.args.actor c.args.op (Insert id v) may.reserved legal (with_added perm c.args.distance) (added_prefix perm c.args.distance)
+    update_holds _ _ _ _ _ _ _ _ _ _ h c.args.actor c.args.op (Insert id v) may.reserved legal (with_added perm c.args.distance) (added_prefix perm c.args.distance)
     (insert_now b.settings b.events.items c.args.actor c.args.op id v perm c.args.distance object.perm_is object.distance_is)
     _ log_is _ c.add.ensures _ c.enter.ensures.updates _ actors_is _ c.enter.ensures.room
 

@@ -26,4 +26,5 @@ invariant_of-self c =
       each = h.each;
       pages = h.pages;
       shared = h.shared;
+      retired_are = h.retired_are;
     }

@@ -3,6 +3,9 @@ use Rattle.std.proofs.lemmas.List.{length-replicate}
 use Rattle.mi_base.specs.Configuration.{Configuration, IsWithinLimits}
 use Rattle.mi_board.specs.Actors.{idle}
 use Rattle.mi_board.specs.Boards.{cells_in, opened_board}
+use Rattle.std.specs.List.{AllByRecursion}
+use Rattle.mi_board.specs.declared.retired.RetiredLeaf.{RetiredLeaf}
+use Rattle.mi_board.specs.Kept.{IsRetired}
 use Rattle.mi_board.specs.Marks.{marked}
 use Rattle.mi_board.proofs.MarkLemmas.{marked-none}
 use Rattle.mi_board.proofs.StepLemmas.{boards_equal, open_board}
@@ -24,11 +27,12 @@ invariant_of-result c =
       each = ap length c.in_ok-marks.ensures ∙ length-replicate c.len-2.result false ∙ c.len-2.ensures;
       pages = limits.pages.0;
       shared = tt;
+      retired_are = subst (AllByRecursion (IsRetired c.new.result.items)) (sym c.new-2.ensures.items) tt;
     }
 
 pub returns : goal.returns
 returns c =
     let many : c.loop.counter ≡ c.args.actors = let end = c.loop.auto.counter-end in let past = c.loop-test.false in omega (arith, end, past) in
     let none = ap (marked (prefixes_of c.in_ok-catalog.catalog.leaves)) c.in_ok-marks.ensures ∙ marked-none (prefixes_of c.in_ok-catalog.catalog.leaves) c.len-2.result in
-    boards_equal c.in_ok-copy.field-0 0 0 1 None c.new.ensures.items (c.loop.invariant ∙ ap (λ (n : ℕ). replicate n idle) many) c.new-2.ensures.items none
+    boards_equal c.in_ok-copy.field-0 0 0 1 None c.new.ensures.items (c.loop.invariant ∙ ap (λ (n : ℕ). replicate n idle) many) (ap (map (λ (r : RetiredLeaf). r.prefix)) c.new-2.ensures.items) none
     ∙ ap (λ (s : Configuration). opened_board s (replicate c.args.actors idle)) c.in_ok-copy.ensures

@@ -3,7 +3,8 @@ use Rattle.std.specs.Vec.{vec_capacity}
 use Rattle.mi_base.specs.History.{updates_of}
 use Rattle.mi_board.specs.Actors.{with_reserved}
 use Rattle.mi_board.specs.Boards.{BoardState, HasRoom, with_actor}
-use Rattle.mi_board.specs.Kept.{IsShared}
+use Rattle.std.specs.List.{AllByRecursion}
+use Rattle.mi_board.specs.Kept.{IsRetired, IsShared}
 use Rattle.mi_board.proofs.ActorLemmas.{change_is, reserved}
 use Rattle.mi_board.proofs.StepLemmas.{boards_equal, reserve_board}
 use Rattle.mi_board.proofs.boards.Board.reserve.Goals as goal
@@ -23,6 +24,7 @@ invariant_of-self-2 c =
       each = h.each;
       pages = h.pages;
       shared = subst (λ l. IsShared b.settings l b.kept) (sym kept) h.shared;
+      retired_are = subst (λ l. AllByRecursion (IsRetired l) b.retired.items) (sym kept) h.retired_are;
     }
 
 pub returns : goal.returns

@@ -18,6 +18,7 @@ invariant_of-self g c =
       each = h.each;
       pages = h.pages;
       shared = (subst (IsPosition log) (sym at) (end_position log), c.in-Ok.ensures.ok ∙ c.in_ok-copy.ensures.same ∙ h.board.cells ∙ ap (cells_in b.settings) (sym whole));
+      retired_are = h.retired_are;
     }
 
 pub returns-clause-ticks : goal.returns-clause-ticks
