@@ -134,23 +134,28 @@ pub record StandsStill (old new : DeleteOp) (w : View) : Type 0 where
   pub same : new ≡ old
   pub held : FindsHeld old w
 
--- Which section follows which; root is the one in hand afterwards.
-abbrev pub Follows : DeleteState → DeleteState → ℕ → View → Type 0
-Follows Begin Begin root w = Unit {0}
-Follows Begin Looking root w = Unit {0}
-Follows Begin Reserving root w = Unit {0}
-Follows Looking (Releasing (ending.Absent p)) root w = Unit {0}
-Follows Reserving Claiming root w = root ≡ w.root
-Follows Reserving (Releasing (ending.Full limit)) root w = Unit {0}
-Follows Reserving (Releasing ending.Memory) root w = Unit {0}
-Follows Claiming Claiming root w = Unit {0}
-Follows Claiming (Committing page) root w = page ≡ root
-Follows (Committing page) (Committing p) root w = Unit {0}
-Follows (Committing page) (Unclaiming (ending.Removed n)) root w = Unit {0}
-Follows (Committing page) (Unclaiming (ending.Full limit)) root w = Unit {0}
-Follows (Unclaiming e) (Releasing f) root w = f ≡ e
-Follows (Releasing e) (Over f) root w = f ≡ e
-Follows old new root w = ⊥
+-- the root in hand after a section: that of the reservation
+abbrev pub root_after : DeleteState → DeleteState → ℕ → View → ℕ
+root_after Reserving Claiming root w = w.root
+root_after old new root w = root
+
+-- Which section follows which; root is the one in hand.
+abbrev pub Follows : DeleteState → DeleteState → ℕ → Type 0
+Follows Begin Begin root = Unit {0}
+Follows Begin Looking root = Unit {0}
+Follows Begin Reserving root = Unit {0}
+Follows Looking (Releasing (ending.Absent p)) root = Unit {0}
+Follows Reserving Claiming root = Unit {0}
+Follows Reserving (Releasing (ending.Full limit)) root = Unit {0}
+Follows Reserving (Releasing ending.Memory) root = Unit {0}
+Follows Claiming Claiming root = Unit {0}
+Follows Claiming (Committing page) root = page ≡ root
+Follows (Committing page) (Committing p) root = Unit {0}
+Follows (Committing page) (Unclaiming (ending.Removed n)) root = Unit {0}
+Follows (Committing page) (Unclaiming (ending.Full limit)) root = Unit {0}
+Follows (Unclaiming e) (Releasing f) root = f ≡ e
+Follows (Releasing e) (Over f) root = f ≡ e
+Follows old new root = ⊥
 
 -- what each answer says
 abbrev pub Outcome : DeleteOp → View → Turn → DeleteOp → View → Type 0
@@ -168,7 +173,8 @@ pub record Turned (old : DeleteOp) (v : View) (answer : Turn) (new : DeleteOp) (
   pub fresh : w.fresh ≡ v.fresh
   pub owes : w.owes ≡ v.owes
   pub advances : Advances old.op (made old) (number_in old) (number_in new) (since_in old v) (since_in new w) v w
-  pub follows : Follows old.state new.state new.root w
+  pub follows : Follows old.state new.state new.root
+  pub root_is : new.root ≡ root_after old.state new.state old.root w
   pub outcome : Outcome old v answer new w
 
 -- What is kept from the first section to the last, whatever the actor's own updates and the events seen were at the first: its own updates

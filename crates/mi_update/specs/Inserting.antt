@@ -1,5 +1,5 @@
 -- An insert between its sections, and what a section of it does.
-use Rattle.std.specs.Prelude.{is_some, ◌≡◌, ◌≤◌, ◌+◌, ◌-◌, ◌*◌, ◌++◌, ℕ, ℤ, List, Option, Some, None, Bool, true, false, IsTrue, IsSome, length, cond, ◌⊎◌}
+use Rattle.std.specs.Prelude.{unwrap_or, is_some, ◌≡◌, ◌≤◌, ◌+◌, ◌-◌, ◌*◌, ◌++◌, ℕ, ℤ, List, Option, Some, None, Bool, true, false, IsTrue, IsSome, length, cond, ◌⊎◌}
 use Rattle.mi_base.specs.declared.records.LogEvent.{LogEvent}
 use Rattle.mi_base.specs.declared.records.Op.{Op}
 use Rattle.mi_base.specs.declared.records.Op.TheVariants.{Insert}
@@ -206,13 +206,24 @@ pub record FindsFull (w : View) (page : ℕ) : Type 0 where
   pub page_is : w.page ≡ page
   pub items : w.items ≡ 32
 
--- Which section follows which, and what was found that leads there; root is the one in hand afterwards.
+-- the root that the post's latest look gave, after this section, or else the one in hand
+abbrev pub root_of_post : Option Post → ℕ → View → ℕ
+root_of_post None root w = root
+root_of_post (Some post) root w = unwrap_or (posting.root_after post.state post.root w) root
+
+-- the root in hand after a section: that of the reservation, and after a post that of its latest look
+abbrev pub root_after : InsertState → InsertState → Option Post → ℕ → View → ℕ
+root_after Reserving Claiming post root w = w.root
+root_after (Posting page) (Committing p) post root w = root_of_post post root w
+root_after old new post root w = root
+
+-- Which section follows which, and what was found that leads there; root is the one in hand.
 abbrev pub Follows : InsertState → InsertState → ℕ → View → Type 0
 Follows Begin Begin root w = Unit {0}
 Follows Begin Looking root w = Unit {0}
 Follows Begin Reserving root w = Unit {0}
 Follows Looking (Releasing (ending.Present p)) root w = Unit {0}
-Follows Reserving Claiming root w = root ≡ w.root
+Follows Reserving Claiming root w = Unit {0}
 Follows Reserving (Releasing (ending.Full limit)) root w = Unit {0}
 Follows Reserving (Releasing ending.Memory) root w = Unit {0}
 Follows Claiming Claiming root w = Unit {0}
@@ -260,6 +271,7 @@ pub record Turned (old : InsertOp) (v : View) (answer : Turn) (new : InsertOp) (
   pub advances : Advances old.op (made old) (number_in old) (number_in new) (since_in old v) (since_in new w) v w
   pub owes : (owed : ℕ → Bool) → OwesOnly owed (pending_in old.state old.post) v → OwesOnly owed (pending_in new.state new.post) w
   pub follows : Follows old.state new.state new.root w
+  pub root_is : new.root ≡ root_after old.state new.state old.post old.root w
   pub outcome : Outcome old v answer new w
 
 -- What is kept from the first section to the last, whatever the actor's own updates, the events seen and the routes owed were at the
