@@ -17,10 +17,12 @@ use Rattle.mi_tree.specs.Legal.{MayFollow}
 use Rattle.mi_tree.proofs.CatLemmas.{held_live}
 use Rattle.mi_tree.proofs.LeafLemmas.{same_cell_is, leaf_is}
 use Rattle.mi_tree.proofs.LegalLemmas.{live_updated, updates_of_split, wanted, all_may, one_live}
-use Rattle.mi_core.specs.Events.{Can, Event, after, leaf_or}
+use Rattle.mi_page.specs.Nodes.{Node}
+use Rattle.mi_core.specs.Events.{Can, CanDelete, Event, after, leaf_or}
 use Rattle.mi_core.specs.Events.Event.{see, look, meet, refuse, refuse_at, visit, start, trim, miss_shard, claim_shard, release_shard, reserve, pin, unpin, claim_leaf, release_leaf, insert, delete, allot, lack, grow, split_page, post, gather, copy_in, uncopy, publish, give_up, take_sweep, take_split, no_work, sweep, fork, absorb, depart}
 use Rattle.mi_core.specs.Sound.{Sound}
 use Rattle.mi_entries.specs.Entries.{grid}
+use Rattle.mi_entries.specs.Records.{Rows}
 use Rattle.mi_entries.specs.Actors.{Actor}
 use Rattle.mi_core.specs.State.{State}
 use Rattle.mi_entries.proofs.ContentLemmas.{leaf_more, leaf_split}
@@ -72,16 +74,21 @@ split_wanted c log q p ne w = record {
   many = subst (λ (xs : List Update). c.cell < length (filter (belongs (grid c) p) (live xs))) (sym (updates_of_split log q)) w.many;
 }
 
--- a delete of an object of another leaf leaves it too
+-- a delete of an object of another leaf takes none out
+pub count_deleted : (c : Configuration) (log : List LogEvent) (a op id : ℕ) (p : List ℕ) (x : TheOne id (live (updates_of log))) → belongs (grid c) p x.object ≡ false
+    → length (filter (belongs (grid c) p) (live (updates_of (log ++ Made a op (Delete id) ∷ [])))) ≡ length (filter (belongs (grid c) p) (live (updates_of log)))
+count_deleted c log a op id p x out =
+    let t : Object → Bool = belongs (grid c) p in let rest : List Object = filter (λ o. not (o.id == id)) (live (updates_of log)) in
+    let n = same_length _ _ (same_filter t _ _ x.whole) in
+    let one : length (filter t (x.object ∷ rest)) ≡ length (filter t rest) = ap (λ b. length (cond b (x.object ∷ filter t rest) (filter t rest))) out in
+    ap (λ (xs : List Object). length (filter t xs)) (live_updated log a op (Delete id)) ∙ sym (n ∙ one)
+
+-- and leaves it too
 delete_wanted : (c : Configuration) (log : List LogEvent) (a op id : ℕ) (p : List ℕ) (x : TheOne id (live (updates_of log))) → belongs (grid c) p x.object ≡ false → IsWanted c log p → IsWanted c (log ++ Made a op (Delete id) ∷ []) p
 delete_wanted c log a op id p x out w = record {
   leaf = leaf_more (grid c) log a op (Delete id) p ∙ w.leaf;
   above = w.above;
-  many = subst (λ (xs : List Object). c.cell < length (filter (belongs (grid c) p) xs)) (sym (live_updated log a op (Delete id)))
-      (let t : Object → Bool = belongs (grid c) p in let rest : List Object = filter (λ o. not (o.id == id)) (live (updates_of log)) in
-      let n = same_length _ _ (same_filter t _ _ x.whole) in
-      let one : length (filter t (x.object ∷ rest)) ≡ length (filter t rest) = ap (λ b. length (cond b (x.object ∷ filter t rest) (filter t rest))) out in
-      let m = w.many in omega (arith, n, one, m));
+  many = (let m = w.many in omega (arith, m, count_deleted c log a op id p x out));
 }
 
 in_map : {X Y : Type 0} (f : X → Y) (xs : List X) (x : X) → IsOne x xs → IsOne (f x) (map f xs)
@@ -118,6 +125,19 @@ same_object g log id p o alive x h =
           (λ t. let q = filter_in (λ (y : Object). not (y.id == id)) (live (updates_of log)) z.0 t in let two = and_parts (z.0.id == id) (not (belongs g p z.0)) z.2 in false≢true (sym (ap not two.0) ∙ q.1)) z.1)
     ]) refl
 
+-- the one live object that another actor deletes is of another leaf than that of a claim
+pub deleted_apart : (c : State) (k : Sound c) (a : ℕ) (r : Actor) → slice_get c.actors a ≡ Some r → (id page : ℕ) (node : Node) (kept : Rows) (key : ℕ) → CanDelete c r id page node kept key
+    → (b : ℕ) (t : Actor) (p : List ℕ) → slice_get c.actors b ≡ Some t → b ≢ a → t.claim ≡ Some p → (x : TheOne id (live (updates_of c.board.log))) × (belongs (grid c.board.settings) p x.object ≡ false)
+deleted_apart c k a r there id page node kept key can b t p its ne claim =
+    let g : Grid = grid c.board.settings in let log : List LogEvent = c.board.log in let o = object_of c k a r there id page node kept key can in
+    let x = one_live c.board.settings log k.legal id (is_live_here id log o.object o.alive) in (
+      x,
+      not_true (belongs g p x.object) (λ h.
+          let under : begins p (g.perm o.object.vector) ≡ true = same_object g log id p o.object o.alive x h in
+          let leaf : p ≡ leaf_of g log (g.perm o.object.vector) = leaf_is g (is_keyed c.board.settings k.limits).grid log (all_may c.board.settings log k.legal) p o.object.vector ((k.each b t its).holds.leaf p claim) under in
+          ne (k.claims b a t r p its there claim (can.may.claim ∙ ap Some (leaf_there c k a r there id page node kept key can ∙ sym leaf)))),
+    )
+
 -- no event of another actor makes it not wanted
 pub wanted_stays : (c : State) → Sound c → (a : ℕ) (r : Actor) → slice_get c.actors a ≡ Some r → (e : Event) → Can c a r e → (b : ℕ) (t : Actor) (p : List ℕ) → slice_get c.actors b ≡ Some t → b ≢ a → t.claim ≡ Some p
     → IsWanted c.board.settings c.board.log p → IsWanted (after c a r e).board.settings (after c a r e).board.log p
@@ -145,14 +165,7 @@ wanted_stays c k a r there unpin can b t p its ne claim w = w
 wanted_stays c k a r there (claim_leaf l) can b t p its ne claim w = w
 wanted_stays c k a r there release_leaf can b t p its ne claim w = w
 wanted_stays c k a r there (delete op id page node kept key) can b t p its ne claim w =
-    let g : Grid = grid c.board.settings in let log : List LogEvent = c.board.log in let o = object_of c k a r there id page node kept key can in
-    let x = one_live c.board.settings log k.legal id (is_live_here id log o.object o.alive) in
-    delete_wanted c.board.settings log a op id p x
-    (not_true (belongs g p x.object) (λ h.
-    let under : begins p (g.perm o.object.vector) ≡ true = same_object g log id p o.object o.alive x h in
-    let leaf : p ≡ leaf_of g log (g.perm o.object.vector) = leaf_is g (is_keyed c.board.settings k.limits).grid log (all_may c.board.settings log k.legal) p o.object.vector ((k.each b t its).holds.leaf p claim) under in
-    ne (k.claims b a t r p its there claim (can.may.claim ∙ ap Some (leaf_there c k a r there id page node kept key can ∙ sym leaf)))))
-    w
+    let x = deleted_apart c k a r there id page node kept key can b t p its ne claim in delete_wanted c.board.settings c.board.log a op id p x.0 x.1 w
 wanted_stays c k a r there allot can b t p its ne claim w = w
 wanted_stays c k a r there lack can b t p its ne claim w = w
 wanted_stays c k a r there (grow level key child) can b t p its ne claim w = w
