@@ -67,7 +67,7 @@ pub fn placed_at(
     vector: &Vector,
 ) -> Result<Placed, NoMemory>
     ensures fits { OnOk result (IsTrue ((metric_space board.now.settings).fits vector.now)) }
-    ensures placed_object { IfOk result (λ place. place ≡ placed_object (grid_in board.now) (record { id = 0; vector = vector.now })) }
+    ensures placed { IfOk result (λ place. place ≡ placed_object (grid_in board.now) (record { id = 0; vector = vector.now })) }
 {
     let settings = board.settings();
     assert!(rt; settings.metric == MetricKind::L1);

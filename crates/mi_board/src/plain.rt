@@ -151,7 +151,7 @@ impl Plain {
     }
 
     pub fn actors(&self) -> u32 {
-        self.holders.len() as u32
+        u32::try_from(self.holders.len()).unwrap_or(u32::MAX)
     }
 
     pub fn open_actors(&self) -> usize {
