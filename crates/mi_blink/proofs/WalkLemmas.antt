@@ -14,7 +14,7 @@ use Rattle.mi_world.specs.declared.answers.Visit.TheVariants.{Down, Right, Read}
 use Rattle.mi_tree.specs.Births.{born}
 use Rattle.mi_world.specs.Pages.{Visits, GoesRight, IsInLeaf, pinned}
 use Rattle.mi_key.specs.Shown.{Shown, shown_cmp, within, below, from_on, offerings}
-use Rattle.mi_rules.specs.Standing.{shown, shown_as}
+use Rattle.mi_world.specs.LeafKeys.{shown, shown_as}
 use Rattle.mi_world.specs.View.{View, Later}
 use Rattle.mi_blink.specs.declared.walk.Walk.{Walk}
 use Rattle.mi_blink.specs.declared.walk.WalkTurn.TheVariants.{More, Done}

@@ -5,7 +5,7 @@ use Rattle.mi_world.specs.declared.answers.Visit.{Visit}
 use Rattle.mi_world.specs.declared.answers.Visit.TheVariants.{Down, Right, Read}
 use Rattle.mi_world.specs.Pages.{IsInLeaf, MayVisit, Visits, pinned}
 use Rattle.mi_key.specs.Shown.{within, below, offerings}
-use Rattle.mi_rules.specs.Standing.{shown}
+use Rattle.mi_world.specs.LeafKeys.{shown}
 use Rattle.mi_world.specs.View.{View}
 use Rattle.mi_blink.specs.declared.walk.Walk.{Walk}
 use Rattle.mi_blink.specs.declared.walk.WalkTurn.{WalkTurn}

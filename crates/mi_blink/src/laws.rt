@@ -1,5 +1,11 @@
 //! What is true of descents, walks and posts at every view. The functions do nothing.
-ghost use Rattle.std.specs.Prelude.{◌≡◌, ◌≤◌, ◌<◌, ◌+◌, ◌*◌, [], ℕ};
+ghost use Rattle.std.specs.Prelude.{◌≡◌, ◌≤◌, ◌<◌, ◌+◌, ◌*◌, [], ℕ, List};
+ghost use Rattle.mi_base.specs.declared.records.LogEvent.{LogEvent};
+ghost use Rattle.mi_base.specs.Configuration.{Configuration, IsWithinLimits, metric_space};
+ghost use Rattle.mi_base.specs.Space.{IsMetric};
+ghost use Rattle.mi_rules.specs.Standing.{ShowsLive};
+ghost use Rattle.mi_tree.specs.Legal.{LegalLog};
+ghost use Rattle.mi_world.specs.LeafKeys.{shown};
 ghost use Rattle.mi_world.specs.Pages.{IsChildAt};
 ghost use Rattle.mi_world.specs.View.{Others, View};
 ghost use Rattle.mi_blink.specs.declared.post.Post.{Post as APost};
@@ -43,4 +49,9 @@ pub fn posts_end()
 /// What falls beside the budget falls as one number.
 pub fn falls_as_one_number()
     ensures { (v w : View) (x y most : ℕ) → Falls v x w y → y < most → budget w * most + y < budget v * most + x }
+{}
+
+/// What a legal log shows are its live objects, each in its leaf.
+pub fn legal_logs_show_the_live()
+    ensures { (c : Configuration) → IsWithinLimits c → IsMetric (metric_space c) → (log : List LogEvent) → LegalLog c log → ShowsLive c log (shown c log) }
 {}

@@ -5,7 +5,7 @@ use Rattle.mi_input.specs.declared.faults.Reason.{Reason}
 use Rattle.mi_input.specs.declared.faults.Reason.TheVariants.{Limit}
 use Rattle.mi_input.specs.declared.faults.InputFault.{InputFault}
 use Rattle.mi_input.specs.Faults.{Fault, ReadsAs, ◌>>=◌, at_record}
-use Rattle.mi_input.specs.Records.{limited}
+use Rattle.mi_input.specs.Records.{within_limit}
 
 pub chosen : {X : Type 0} (b : Bool) (x y z : X) → cond b x y ≡ z → ((b ≡ true) × (x ≡ z)) ⊎ ((b ≡ false) × (y ≡ z))
 chosen true x y z h = inl (refl, h)
@@ -18,7 +18,7 @@ pub bind_ok : {A B E : Type 0} (r : Result A E) (next : A → Result B E) (y : B
 bind_ok (Ok x) next y h = (x, refl, h)
 bind_ok (Err e) next y h = cc
 
-pub limited_ok : {X : Type 0} (most number : ℕ) (r : Result X Reason) (x : X) → limited most number r ≡ Ok x → (number ≤ most) × (r ≡ Ok x)
+pub limited_ok : {X : Type 0} (most number : ℕ) (r : Result X Reason) (x : X) → within_limit most number r ≡ Ok x → (number ≤ most) × (r ≡ Ok x)
 limited_ok most number r x h = elim (chosen (nat_le number most) r (Err Limit) (Ok x) h) [
   | inl few ↦ (leb-true number most few.0, few.1)
   | inr many ↦ cc many.1

@@ -67,9 +67,9 @@ takes_some s fields field (c ∷ rest) p h =
     let f2 = fields_after (step default_config s c).1 fields field in
     let g2 = field_after (step default_config s c).1 c field in
     elim (chosen (is_end (step default_config s c).1) (Some (f2, s2, rest)) (next_record default_config s2 f2 g2 rest) (Some p) h) [
-      | inl ended ↦
-          let e = some_same (f2, s2, rest) p ended.1 in
-          subst (λ (q : Read). Leaves s (c ∷ rest) q) e (omega arith, (λ between. omega arith), ends_between s c ended.0)
+      | inl value_if_none_left ↦
+          let e = some_same (f2, s2, rest) p value_if_none_left.1 in
+          subst (λ (q : Read). Leaves s (c ∷ rest) q) e (omega arith, (λ between. omega arith), ends_between s c value_if_none_left.0)
       | inr more ↦
           let t : Leaves s2 rest p = takes_some s2 f2 g2 rest p more.1 in
           (omega (arith, t.0), (λ between. omega (arith, t.0)), t.2)

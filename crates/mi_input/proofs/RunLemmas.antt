@@ -5,7 +5,7 @@ use Rattle.mi_input.specs.declared.faults.Reason.{Reason}
 use Rattle.mi_input.specs.declared.faults.InputFault.{InputFault}
 use Rattle.mi_input.specs.declared.faults.InputFault.TheVariants.{Bad, Memory}
 use Rattle.mi_input.specs.Faults.{Fault, IsFaultOf, ◌>>=◌, at_record}
-use Rattle.mi_input.specs.Records.{Place, next_begins, reading, run_of}
+use Rattle.mi_input.specs.Records.{Place, next_begins, read_record, run_of}
 use Rattle.mi_input.proofs.CaseLemmas.{ok_same}
 
 -- what was read before, and what is still read
@@ -33,7 +33,7 @@ reading_err number (Err why) place fault h = let e : record { number = number; w
 
 module _ {X : Type 0} (word : List ℕ) (form : ℕ → List (List ℕ) → Result X Reason) where
   go : (front : List X) (number : ℕ) (records : List (List (List ℕ))) (next : Place) (x : X) → next_begins word records ≡ true
-      → reading (form (length front + 1)) (record { number = number; records = records }) ≡ Ok (x, next)
+      → read_record (form (length front + 1)) (record { number = number; records = records }) ≡ Ok (x, next)
       → run_ahead front (run_of word form (length front) number records) ≡ run_ahead (front ++ x ∷ []) (run_of word form (length (front ++ x ∷ [])) next.number next.records)
   unfolding run_of
   go front number [] next x begins h = cc
@@ -42,7 +42,7 @@ module _ {X : Type 0} (word : List ℕ) (form : ℕ → List (List ℕ) → Resu
       rw (begins, r.0, r.1, length-append front (x ∷ [])) (ahead_more front x (run_of word form (length front + 1) (number + 1) rest))
 
   stop : (front : List X) (number : ℕ) (records : List (List (List ℕ))) (fault : Fault) → next_begins word records ≡ true
-      → reading (form (length front + 1)) (record { number = number; records = records }) ≡ Err fault
+      → read_record (form (length front + 1)) (record { number = number; records = records }) ≡ Err fault
       → run_ahead front (run_of word form (length front) number records) ≡ Err fault
   unfolding run_of
   stop front number [] fault begins h = cc
@@ -57,12 +57,12 @@ module _ {X : Type 0} (word : List ℕ) (form : ℕ → List (List ℕ) → Resu
   done front number (fields ∷ rest) begins = rw begins (ap (λ (xs : List X). Ok (xs, record { number = number; records = fields ∷ rest })) (append-nil front))
 
   -- one more was read
-  pub run_more : (front : List X) (place next : Place) (x : X) → next_begins word place.records ≡ true → reading (form (length front + 1)) place ≡ Ok (x, next)
+  pub run_more : (front : List X) (place next : Place) (x : X) → next_begins word place.records ≡ true → read_record (form (length front + 1)) place ≡ Ok (x, next)
       → run_ahead front (run_of word form (length front) place.number place.records) ≡ run_ahead (front ++ x ∷ []) (run_of word form (length (front ++ x ∷ [])) next.number next.records)
   run_more front place next x begins h = go front place.number place.records next x begins h
 
   -- one was refused
-  pub run_stops : (front : List X) (place : Place) (e : InputFault) → next_begins word place.records ≡ true → IsFaultOf (reading (form (length front + 1)) place) e
+  pub run_stops : (front : List X) (place : Place) (e : InputFault) → next_begins word place.records ≡ true → IsFaultOf (read_record (form (length front + 1)) place) e
       → IsFaultOf (run_ahead front (run_of word form (length front) place.number place.records)) e
   run_stops front place Memory begins h = tt
   run_stops front place (Bad number why) begins h = stop front place.number place.records (record { number = number; why = why }) begins h

@@ -7,7 +7,7 @@ use Rattle.mi_input.specs.declared.faults.InputFault.{InputFault}
 use Rattle.mi_input.specs.declared.faults.InputFault.TheVariants.{Bad, Memory}
 use Rattle.mi_input.specs.Faults.{IsFaultOf}
 use Rattle.mi_input.specs.Numbers.{count_in}
-use Rattle.mi_input.specs.Records.{Place, read_each, reading, run_of}
+use Rattle.mi_input.specs.Records.{Place, read_each, read_record, run_of}
 use Rattle.mi_input.specs.Settings.{row_in, table_in, values_in}
 use Rattle.mi_input.proofs.RunLemmas.{run_ahead}
 
@@ -40,12 +40,12 @@ each_push P [] x all one = (one, tt)
 each_push P (y ∷ ys) x all one = (all.0, each_push P ys x all.1 one)
 
 -- the first row was read
-pub first_more : (place next : Place) (row : List ℕ) → reading (row_in 1) place ≡ Ok (row, next) → run_ahead (row ∷ []) (run_of (codes "row") row_in 1 next.number next.records) ≡ table_in place
+pub first_more : (place next : Place) (row : List ℕ) → read_record (row_in 1) place ≡ Ok (row, next) → run_ahead (row ∷ []) (run_of (codes "row") row_in 1 next.number next.records) ≡ table_in place
 unfolding table_in
 first_more place next row h = rw h refl
 
 -- the first row was refused
-pub first_stops : (place : Place) (e : InputFault) → IsFaultOf (reading (row_in 1) place) e → IsFaultOf (table_in place) e
+pub first_stops : (place : Place) (e : InputFault) → IsFaultOf (read_record (row_in 1) place) e → IsFaultOf (table_in place) e
 unfolding table_in
 first_stops place Memory h = tt
 first_stops place (Bad number why) h = rw h refl

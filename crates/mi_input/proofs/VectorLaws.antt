@@ -10,7 +10,7 @@ use Rattle.mi_base.specs.Vectors.{all_coordinates}
 use Rattle.mi_input.specs.declared.faults.Reason.{Reason}
 use Rattle.mi_input.specs.declared.faults.Reason.TheVariants.{Range as OutOfRange}
 use Rattle.mi_input.specs.Faults.{◌>>=◌}
-use Rattle.mi_input.specs.Numbers.{bounded, count_in, number_in, whole_in}
+use Rattle.mi_input.specs.Numbers.{number_within, count_in, number_in, whole_in}
 use Rattle.mi_input.specs.Records.{read_each}
 use Rattle.mi_input.specs.Vectors.{highest, lowest}
 use Rattle.mi_input.proofs.CaseLemmas.{bind_ok, chosen, ok_same}
@@ -23,7 +23,7 @@ size (negsuc k) n {least} {most} e lo hi = absurd (omega (arith, ints))
 int_le_of : (a b : ℤ) → int_le a b ≡ true → a ≤ℤ b
 int_le_of a b h = grind (arith, ints)
 
-bounded_ok : (least most : ℤ) (o : Option ℤ) (z : ℤ) → bounded least most o ≡ Ok z → (least ≤ℤ z) × (z ≤ℤ most)
+bounded_ok : (least most : ℤ) (o : Option ℤ) (z : ℤ) → number_within least most o ≡ Ok z → (least ≤ℤ z) × (z ≤ℤ most)
 bounded_ok least most None z h = cc
 bounded_ok least most (Some n) z h = elim (chosen (int_le least n && int_le n most) (Ok n) (Err OutOfRange) (Ok z) h) [
   | inl within ↦

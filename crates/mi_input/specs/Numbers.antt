@@ -27,12 +27,12 @@ number_in (byte ∷ rest) =
     else option_map pos (natural_in (byte ∷ rest))
 
 -- the number, if the field is one and it lies within the bounds, both included
-abbrev pub bounded : ℤ → ℤ → Option ℤ → Result ℤ Reason
-bounded least most None = Err Number
-bounded least most (Some number) = if int_le least number && int_le number most then Ok number else Err Range
+abbrev pub number_within : ℤ → ℤ → Option ℤ → Result ℤ Reason
+number_within least most None = Err Number
+number_within least most (Some number) = if int_le least number && int_le number most then Ok number else Err Range
 
 unfoldable pub whole_in : ℤ → ℤ → List ℕ → Result ℤ Reason
-whole_in least most field = bounded least most (number_in field)
+whole_in least most field = number_within least most (number_in field)
 
 -- the same where the bounds have no sign
 unfoldable pub count_in : ℕ → ℕ → List ℕ → Result ℕ Reason

@@ -34,19 +34,19 @@ first_of number [] = Err (record { number = number; why = End })
 first_of number (fields ∷ rest) = Ok fields
 
 -- the record at a place, read by its form
-abbrev pub reading : {X : Type 0} → (List (List ℕ) → Result X Reason) → Place → Result (X × Place) Fault
-reading form place = do
+abbrev pub read_record : {X : Type 0} → (List (List ℕ) → Result X Reason) → Place → Result (X × Place) Fault
+read_record form place = do
   fields ← first_of place.number place.records
   x ← at_record place.number (form fields)
   Ok (x, after place)
 
 -- the value, if no record follows
-abbrev pub ended : {X : Type 0} → ℕ → List (List (List ℕ)) → X → Result X Fault
-ended number [] x = Ok x
-ended number (fields ∷ rest) x = Err (record { number = number; why = Extra })
+abbrev pub value_if_none_left : {X : Type 0} → ℕ → List (List (List ℕ)) → X → Result X Fault
+value_if_none_left number [] x = Ok x
+value_if_none_left number (fields ∷ rest) x = Err (record { number = number; why = Extra })
 
-abbrev pub ending : {X : Type 0} → Place → X → Result X Fault
-ending place x = ended place.number place.records x
+abbrev pub value_at_end : {X : Type 0} → Place → X → Result X Fault
+value_at_end place x = value_if_none_left place.number place.records x
 
 -- the field at a place from 0, and an empty one where there is none
 abbrev pub field_in : ℕ → List (List ℕ) → List ℕ
@@ -63,8 +63,8 @@ next_begins word [] = false
 next_begins word (fields ∷ rest) = begins_with word fields
 
 -- at most so many records of a kind, of which this is the one of that number
-abbrev pub limited : {X : Type 0} → ℕ → ℕ → Result X Reason → Result X Reason
-limited most number read = if nat_le number most then read else Err Limit
+abbrev pub within_limit : {X : Type 0} → ℕ → ℕ → Result X Reason → Result X Reason
+within_limit most number read = if nat_le number most then read else Err Limit
 
 -- the records from a place on that begin with a word, where so many of them stand before it, each read by its form with its
 -- number among them, and the place after them

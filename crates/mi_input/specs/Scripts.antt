@@ -9,7 +9,7 @@ use Rattle.mi_input.specs.declared.faults.Reason.TheVariants.{Word, Fields}
 use Rattle.mi_input.specs.declared.vectors.Shape.{Shape}
 use Rattle.mi_input.specs.Faults.{Fault, ◌>>=◌, at_record}
 use Rattle.mi_input.specs.Numbers.{count_in}
-use Rattle.mi_input.specs.Records.{begins_with, field_in, limited, records_in}
+use Rattle.mi_input.specs.Records.{begins_with, field_in, within_limit, records_in}
 use Rattle.mi_input.specs.Vectors.{shape_of, vector_in}
 
 abbrev pub id_in : List ℕ → Result ℕ Reason
@@ -53,10 +53,10 @@ nearest_in shape fields =
 -- the operation in the record of this number, or the first thing that is wrong with it
 unfoldable pub op_in : Shape → ℕ → List (List ℕ) → Result Op Reason
 op_in shape number fields =
-    if begins_with (codes "insert") fields then limited MAX_OPS number (insert_in shape fields)
-    else if begins_with (codes "delete") fields then limited MAX_OPS number (delete_in fields)
-    else if begins_with (codes "range") fields then limited MAX_OPS number (range_in shape fields)
-    else if begins_with (codes "nearest") fields then limited MAX_OPS number (nearest_in shape fields)
+    if begins_with (codes "insert") fields then within_limit MAX_OPS number (insert_in shape fields)
+    else if begins_with (codes "delete") fields then within_limit MAX_OPS number (delete_in fields)
+    else if begins_with (codes "range") fields then within_limit MAX_OPS number (range_in shape fields)
+    else if begins_with (codes "nearest") fields then within_limit MAX_OPS number (nearest_in shape fields)
     else Err Word
 
 -- the operations in these records, of which this is the number of the first, up to the first fault

@@ -13,7 +13,7 @@ use Rattle.mi_input.specs.declared.settings.Sizes.{Sizes}
 use Rattle.mi_input.specs.declared.vectors.Shape.{Shape}
 use Rattle.mi_input.specs.Faults.{Fault, ◌>>=◌}
 use Rattle.mi_input.specs.Numbers.{count_in}
-use Rattle.mi_input.specs.Records.{Place, begins_with, read_each, ending, field_in, limited, reading, run_of, start}
+use Rattle.mi_input.specs.Records.{Place, begins_with, read_each, value_at_end, field_in, within_limit, read_record, run_of, start}
 use Rattle.mi_input.specs.Vectors.{shape_under, vector_in}
 
 -- the metric of this name
@@ -57,13 +57,13 @@ values_in fields =
 -- row,VALUES: the table's row of this number, from 1
 unfoldable pub row_in : ℕ → List (List ℕ) → Result (List ℕ) Reason
 row_in number fields =
-    if begins_with (codes "row") fields then limited MAX_ROWS number (values_in (drop 1 fields))
+    if begins_with (codes "row") fields then within_limit MAX_ROWS number (values_in (drop 1 fields))
     else Err Word
 
 -- one row at least
 unfoldable pub table_in : Place → Result (List (List ℕ) × Place) Fault
 table_in place = do
-  first ← reading (row_in 1) place
+  first ← read_record (row_in 1) place
   more ← run_of (codes "row") row_in 1 first.1.number first.1.records
   Ok (first.0 ∷ more.0, more.1)
 
@@ -77,14 +77,14 @@ rows_in Hamming place = Ok ([], place)
 -- metric,NAME / dims,N / row,VALUES ..
 unfoldable pub measure_in : Place → Result (Measure × Place) Fault
 measure_in place = do
-  metric ← reading metric_in place
-  dims ← reading (setting_in (codes "dims") 1 (most_dims metric.0)) metric.1
+  metric ← read_record metric_in place
+  dims ← read_record (setting_in (codes "dims") 1 (most_dims metric.0)) metric.1
   rows ← rows_in metric.0 dims.1
   Ok (record { metric = metric.0; dims = dims.0; rows = rows.0 }, rows.1)
 
 -- pivot,COORDINATES: the pivot of this number, from 1
 unfoldable pub pivot_in : Shape → ℕ → List (List ℕ) → Result (List ℤ) Reason
-pivot_in shape number fields = limited MAX_PIVOTS number (if length fields == shape.dims + 1 then vector_in shape (drop 1 fields) else Err Fields)
+pivot_in shape number fields = within_limit MAX_PIVOTS number (if length fields == shape.dims + 1 then vector_in shape (drop 1 fields) else Err Fields)
 
 -- pivot,COORDINATES ..: there may be none
 unfoldable pub pivots_in : Shape → Place → Result (List (List ℤ) × Place) Fault
@@ -97,10 +97,10 @@ levels_in pivots fields = setting_in (codes "levels") (min 1 pivots) (min MAX_LE
 -- levels,N / cell,N / updates,N / pages,N
 unfoldable pub sizes_in : ℕ → Place → Result (Sizes × Place) Fault
 sizes_in pivots place = do
-  levels ← reading (levels_in pivots) place
-  cell ← reading (setting_in (codes "cell") 1 MAX_CELL) levels.1
-  updates ← reading (setting_in (codes "updates") 1 MAX_UPDATES) cell.1
-  pages ← reading (setting_in (codes "pages") 1 MAX_PAGES) updates.1
+  levels ← read_record (levels_in pivots) place
+  cell ← read_record (setting_in (codes "cell") 1 MAX_CELL) levels.1
+  updates ← read_record (setting_in (codes "updates") 1 MAX_UPDATES) cell.1
+  pages ← read_record (setting_in (codes "pages") 1 MAX_PAGES) updates.1
   Ok (record { levels = levels.0; cell = cell.0; updates = updates.0; pages = pages.0 }, pages.1)
 
 -- the settings in a file of these bytes, or its first fault
@@ -109,7 +109,7 @@ settings_in bytes = do
   measure ← measure_in (start bytes)
   pivots ← pivots_in (shape_under measure.0.metric measure.0.dims measure.0.rows) measure.1
   sizes ← sizes_in (length pivots.0) pivots.1
-  ending sizes.1 (record {
+  value_at_end sizes.1 (record {
     metric = measure.0.metric;
     dims = measure.0.dims;
     rows = measure.0.rows;

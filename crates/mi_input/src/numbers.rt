@@ -1,6 +1,6 @@
 //! Fields as numbers.
 ghost use Rattle.std.specs.Prelude.{◌≡◌, ◌<◌, ◌≤◌, ◌^◌, ◌≤ℤ◌, IfSome, IfOk};
-ghost use Rattle.mi_input.specs.Numbers.{bounded, count_in, natural_in, number_in, whole_in};
+ghost use Rattle.mi_input.specs.Numbers.{number_within, count_in, natural_in, number_in, whole_in};
 
 use crate::faults::Reason;
 
@@ -41,7 +41,7 @@ fn number(field: &[u8]) -> Option<i128>
 
 // The number, if it lies within these bounds.
 fn within(number: Option<i128>, least: i128, most: i128) -> Result<i128, Reason>
-    ensures value { result ≡ bounded least most number }
+    ensures value { result ≡ number_within least most number }
     ensures bounds { IfOk result (λ number. (least ≤ℤ number) × (number ≤ℤ most)) }
 {
     match number {

@@ -2,7 +2,7 @@
 ghost use Rattle.std.specs.Prelude.{◌≡◌, ◌+◌, ◌<◌, IfOk, OnOk};
 ghost use Rattle.csv.specs.Records.{fields_of};
 ghost use Rattle.mi_input.specs.Faults.{ReadsAs};
-ghost use Rattle.mi_input.specs.Records.{reading};
+ghost use Rattle.mi_input.specs.Records.{read_record};
 ghost use Rattle.mi_input.specs.Settings.{ArePivots, IsMeasure, pivot_in, pivots_in};
 ghost use Rattle.mi_input.specs.Vectors.{IsShape, shape_under};
 
@@ -34,7 +34,7 @@ fn pivot_of(shape: &Shape, before: usize, fields: &ByteRecord) -> Result<Vector,
 fn next_pivot(records: &mut Records, shape: &Shape, before: usize) -> Result<Vector, InputFault>
     requires number { records.old.number < 1000 }
     requires shape { IsShape shape.now }
-    ensures gives { ReadsAs (λ pivot. (pivot, records.new)) result (reading (pivot_in shape.now (before + 1)) records.old) }
+    ensures gives { ReadsAs (λ pivot. (pivot, records.new)) result (read_record (pivot_in shape.now (before + 1)) records.old) }
     ensures few { OnOk result (before < MAX_PIVOTS) }
     ensures number { OnOk result (records.new.number ≡ records.old.number + 1) }
 {

@@ -3,7 +3,7 @@ ghost use Rattle.std.specs.Prelude.{◌≡◌, ◌+◌, ◌<◌, ◌≤◌, Ok, 
 ghost use Rattle.csv.specs.Records.{fields_of};
 ghost use Rattle.mi_base.specs.Configuration.{IsDepth};
 ghost use Rattle.mi_input.specs.Faults.{ReadsAs, IsFaultOf};
-ghost use Rattle.mi_input.specs.Records.{reading};
+ghost use Rattle.mi_input.specs.Records.{read_record};
 ghost use Rattle.mi_input.specs.Settings.{AreItsRows, AreSizes, IsMeasure, kind_in, levels_in, measure_in, metric_in, most_dims, rows_in, setting_in, settings_in, sizes_in};
 
 use crate::faults::{InputFault, Reason, in_record};
@@ -87,7 +87,7 @@ fn setting_of(fields: &ByteRecord, word: &[u8], least: u32, most: u32) -> Result
 // The next record as a metric.
 fn metric(records: &mut Records) -> Result<MetricKind, InputFault>
     requires { records.old.number < 1000 }
-    ensures gives { ReadsAs (λ kind. (kind, records.new)) result (reading metric_in records.old) }
+    ensures gives { ReadsAs (λ kind. (kind, records.new)) result (read_record metric_in records.old) }
     ensures number { OnOk result (records.new.number ≡ records.old.number + 1) }
 {
     let fields = records.expect()?;
@@ -99,7 +99,7 @@ fn metric(records: &mut Records) -> Result<MetricKind, InputFault>
 // The next record as this word with a number.
 fn setting(records: &mut Records, word: &[u8], least: u32, most: u32) -> Result<u32, InputFault>
     requires { records.old.number < 1000 }
-    ensures gives { ReadsAs (λ number. (number, records.new)) result (reading (setting_in word.now least most) records.old) }
+    ensures gives { ReadsAs (λ number. (number, records.new)) result (read_record (setting_in word.now least most) records.old) }
     ensures bounds { IfOk result (λ number. (least ≤ number) × (number ≤ most)) }
     ensures number { OnOk result (records.new.number ≡ records.old.number + 1) }
 {
@@ -112,7 +112,7 @@ fn setting(records: &mut Records, word: &[u8], least: u32, most: u32) -> Result<
 // The next record as the number of levels, where there are so many pivots.
 fn levels(records: &mut Records, pivots: u32) -> Result<u32, InputFault>
     requires { records.old.number < 1000 }
-    ensures gives { ReadsAs (λ number. (number, records.new)) result (reading (levels_in pivots) records.old) }
+    ensures gives { ReadsAs (λ number. (number, records.new)) result (read_record (levels_in pivots) records.old) }
     ensures depth { IfOk result (IsDepth pivots) }
     ensures number { OnOk result (records.new.number ≡ records.old.number + 1) }
 {

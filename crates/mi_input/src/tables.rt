@@ -3,7 +3,7 @@ ghost use Rattle.std.specs.Prelude.{◌≡◌, ◌+◌, ◌<◌, drop, IfOk, OnO
 ghost use Rattle.csv.specs.Records.{fields_of};
 ghost use Rattle.mi_base.specs.Configuration.{IsTable, IsTableRow};
 ghost use Rattle.mi_input.specs.Faults.{ReadsAs, at_record};
-ghost use Rattle.mi_input.specs.Records.{reading};
+ghost use Rattle.mi_input.specs.Records.{read_record};
 ghost use Rattle.mi_input.specs.Settings.{row_in, table_in, values_in};
 
 use crate::faults::{InputFault, Reason};
@@ -39,7 +39,7 @@ fn values_of(alloc: Global, number: u32, fields: &ByteRecord) -> Result<TableRow
 #[tactic(auto, unfolding(crate::specs::Settings::row_in))]
 fn next_row(alloc: Global, records: &mut Records, before: usize) -> Result<TableRow, InputFault>
     requires { records.old.number < 1000 }
-    ensures gives { ReadsAs (λ row. (row, records.new)) result (reading (row_in (before + 1)) records.old) }
+    ensures gives { ReadsAs (λ row. (row, records.new)) result (read_record (row_in (before + 1)) records.old) }
     ensures row { IfOk result IsTableRow }
     ensures few { OnOk result (before < MAX_ROWS) }
     ensures number { OnOk result (records.new.number ≡ records.old.number + 1) }

@@ -3,15 +3,15 @@
 
 ghost use Rattle.std.specs.Prelude.{◌≡◌, ◌<◌};
 
-mod counts;
-mod maxima;
+mod hamming;
+mod l1;
+mod max;
 mod spaces;
-mod sums;
 
-pub use counts::Hamming;
-pub use maxima::Max;
+pub use hamming::Hamming;
+pub use l1::L1;
+pub use max::Max;
 pub use spaces::Metric;
-pub use sums::L1;
 
 #[cfg(test)]
 mod tests {

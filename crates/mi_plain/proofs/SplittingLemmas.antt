@@ -23,11 +23,11 @@ use Rattle.mi_key.proofs.ClusterLemmas.{cluster-small}
 use Rattle.mi_key.proofs.KeyLemmas.{made_of}
 use Rattle.mi_tree.specs.Growing.{GrowsBySplits}
 use Rattle.mi_plain.specs.Plain.{IsKept, IsPlain, child_key, moves, object_in, child_entry}
-use Rattle.mi_rules.specs.Standing.{leaf_key, leaf_parts}
+use Rattle.mi_world.specs.LeafKeys.{leaf_key, leaf_parts}
 use Rattle.mi_tree.specs.Placing.{grid_under}
 use Rattle.mi_key.proofs.FitLemmas.{distance_fits, id_fits}
 use Rattle.mi_rules.proofs.BelowLemmas.{all_below-permutation}
-use Rattle.mi_rules.proofs.StandingLemmas.{leaf_key_parts}
+use Rattle.mi_blink.proofs.LiveLemmas.{leaf_key_parts}
 use Rattle.mi_tree.specs.Cells.{IsGrid, depth, leaf_of, same_cell}
 use Rattle.mi_tree.specs.Legal.{LegalLog, MayFollow}
 use Rattle.mi_tree.proofs.CatalogLemmas.{depth_is}

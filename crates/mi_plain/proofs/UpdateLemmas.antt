@@ -32,7 +32,7 @@ use Rattle.mi_tree.specs.Cells.{Grid, depth_after, leaf_of}
 use Rattle.mi_tree.proofs.LegalLemmas.{live_updated}
 use Rattle.mi_tree.proofs.ListLemmas.{all_weaker}
 use Rattle.mi_plain.specs.Plain.{IsKept, IsPlain, object_in}
-use Rattle.mi_rules.specs.Standing.{leaf_key}
+use Rattle.mi_world.specs.LeafKeys.{leaf_key}
 use Rattle.mi_tree.specs.Placing.{grid_under}
 use Rattle.mi_plain.proofs.EntryLemmas.{found, absent_looked_up, same_inserted, same_removed, all_inserted, all_removed}
 use Rattle.mi_plain.proofs.SplittingLemmas.{plain_actor}

@@ -11,7 +11,7 @@ use Rattle.mi_board.specs.Boards.{BoardState}
 use Rattle.mi_key.specs.declared.entries.Entry.{Entry}
 use Rattle.mi_key.specs.Clusters.{cluster_of}
 use Rattle.mi_key.specs.Keys.{key_of, parts_of}
-use Rattle.mi_rules.specs.Standing.{leaf_key}
+use Rattle.mi_world.specs.LeafKeys.{leaf_key}
 use Rattle.mi_tree.specs.Placing.{grid_under}
 
 -- a map's entry as an object

@@ -4,4 +4,3 @@ pub mod CandidateLemmas
 pub mod RuleLemmas
 pub mod StandingLemmas
 pub mod BelowLemmas
-pub mod ShownLemmas

@@ -21,7 +21,7 @@ use Rattle.mi_key.specs.Shown.{Shown, object_shown}
 use Rattle.mi_key.proofs.FitLemmas.{distance_fits}
 use Rattle.mi_key.proofs.KeyLemmas.{parts_of-key_of}
 use Rattle.mi_rules.specs.Spans.{is_in_span}
-use Rattle.mi_rules.specs.Standing.{StandsInLeaf, leaf_key, leaf_parts}
+use Rattle.mi_rules.specs.Standing.{StandsInLeaf}
 use Rattle.mi_rules.proofs.BelowLemmas.{all_below-permutation}
 use Rattle.mi_rules.proofs.RuleLemmas.{filter_passes, filter_spans}
 use Rattle.mi_tree.proofs.CatalogLemmas.{depth_is}
@@ -69,20 +69,6 @@ all_covered c log xs same =
     let u : Object → Bool = λ o. in_hull (g.distance o.vector) (leaf_with g (population g log) p).hull in
     all_passed object_shown u (belongs g p) xs
     (same_all u (filter (belongs g p) (map object_shown xs)) (filter (belongs g p) (live (updates_of log))) (same_filter (belongs g p) (map object_shown xs) (live (updates_of log)) same) ∙ live_covered g log p))
-
--- what the key of an object is made of in its leaf
-pub leaf_key_parts : (c : Configuration) → IsWithinLimits c → (log : List LogEvent) (id : ℕ) (v : List ℤ) (birth : ℕ) → id < 2 ^ 40 → (grid_under c).distance v < 2 ^ 27 → birth ≤ c.updates
-    → parts_of (leaf_key c log id v birth) ≡ leaf_parts c log id v birth
-leaf_key_parts c limits log id v birth low near born =
-    let g = grid_under c in
-    let perms = (space_is_grid (space_of c) c.levels limits.few_pivots limits.levels).perms v in
-    let below = all_below-permutation (length c.pivots) (depth g log (g.perm v)) (g.perm v) perms.1 perms.0 in
-    parts_of-key_of (leaf_parts c log id v birth) (record {
-      fit_cluster = omega (arith, cluster-small (length c.pivots) c.levels (leaf_of g log (g.perm v)) limits.few_pivots (depth_is (length c.pivots) c.levels limits.levels).0 below);
-      fit_distance = near;
-      fit_id = low;
-      fit_birth = omega (arith, born, limits.updates.1);
-    })
 
 module _ (c : Configuration) (limits : IsWithinLimits c) (log : List LogEvent) (legal : LegalLog c log) where
   -- the leaf that a vector belongs to

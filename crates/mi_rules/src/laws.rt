@@ -2,7 +2,7 @@
 ghost use Rattle.std.specs.Prelude.{◌≡◌, ◌≤◌, ◌<◌, ◌^◌, [], ℕ, ℤ, List, IfSome, Option, Some, length, nat_le, true};
 ghost use Rattle.std.specs.List.{filter};
 ghost use Rattle.mi_base.specs.declared.records.LogEvent.{LogEvent};
-ghost use Rattle.mi_base.specs.Configuration.{Configuration, IsDepth, IsWithinLimits, metric_space};
+ghost use Rattle.mi_base.specs.Configuration.{IsDepth};
 ghost use Rattle.mi_base.specs.History.{live, updates_of};
 ghost use Rattle.mi_base.specs.Permutations.{distances, key_distance};
 ghost use Rattle.mi_base.specs.Space.{IsMetric, Space};
@@ -13,8 +13,6 @@ ghost use Rattle.mi_tree.specs.Cells.{AllMaySplit, grid_of};
 ghost use Rattle.mi_rules.specs.Passing.{IsBound, candidates, lets_through, passes};
 ghost use Rattle.mi_rules.specs.Answers.{IsAnswer, MayHold};
 ghost use Rattle.mi_rules.specs.Spans.{is_in_span, is_near};
-ghost use Rattle.mi_rules.specs.Standing.{ShowsLive, shown};
-ghost use Rattle.mi_tree.specs.Legal.{LegalLog};
 
 /// No rule drops an answer: the filter lets an object within the radius through, each leaf that may hold it passes and has no
 /// bound above the radius, and its key there is in the leaf's span, also where that is cut to the hull.
@@ -52,9 +50,4 @@ pub fn filter_implies_passing()
     ensures candidates { (space : Space) (levels : ℕ) → length space.pivots ≤ 32 → IsDepth (length space.pivots) levels
         → (log : List LogEvent) → AllMaySplit (grid_of space levels) log → (query : List ℤ) (radius : ℕ)
         → candidates space levels log query radius ≡ filter (λ o. lets_through radius (distances space query) (distances space o.vector)) (live (updates_of log)) }
-{}
-
-/// What a legal log shows are its live objects, each in its leaf.
-pub fn legal_logs_show_the_live()
-    ensures { (c : Configuration) → IsWithinLimits c → IsMetric (metric_space c) → (log : List LogEvent) → LegalLog c log → ShowsLive c log (shown c log) }
 {}

@@ -8,9 +8,7 @@ mod spans;
 
 pub use bounds::{bound, passes};
 pub use filters::filter;
-pub use laws::{
-    filter_implies_passing, legal_logs_show_the_live, no_answer_is_dropped, passing_grows,
-};
+pub use laws::{filter_implies_passing, no_answer_is_dropped, passing_grows};
 pub use spans::{near_span, span};
 
 #[cfg(test)]

@@ -31,7 +31,7 @@ use Rattle.mi_world.specs.declared.answers.Commit.{Commit}
 use Rattle.mi_world.specs.Pages.{CommitsDelete, CommitsInsert, DeleteAnswer, DeleteSees, GoesDown, InsertAnswer, InsertSees, IsChildAt, IsReached, MayDelete, NotEntered}
 use Rattle.mi_world.specs.Lone.{Standing, copies_where, is_lone_leaf, leaf_where, holder_where, lone, lone_dists, lone_end, lone_leaf, lone_log, lone_record, lone_settings, lone_vector, log_where, pin_where}
 use Rattle.mi_key.specs.Shown.{Shown, from_on, offerings, within}
-use Rattle.mi_rules.specs.Standing.{key_under, greatest_key, least_key, shown, shown_as}
+use Rattle.mi_world.specs.LeafKeys.{key_under, greatest_key, least_key, shown, shown_as}
 use Rattle.mi_tree.specs.Placing.{grid_under}
 use Rattle.mi_world.specs.Splits.{GatherAnswer, Gathers, GathersNone, GathersPage, GivesUp, MayGather, Publishes}
 use Rattle.mi_world.specs.View.{Agrees, IsFloor, Later, SameActors, SameApart, SameBoard, SameFlags, SameLeaf, SamePage, SameSplit, SameSweep, SameTry, SameUpdate, SeesBoard, pin_position, prefix_or, is_wanted_leaf}

@@ -6,7 +6,7 @@ use Rattle.mi_base.specs.History.{updates_of}
 use Rattle.mi_base.specs.Permutations.{key_distance}
 use Rattle.mi_base.proofs.HistoryLemmas.{updates_of-append}
 use Rattle.mi_key.specs.Keys.{key_of}
-use Rattle.mi_rules.specs.Standing.{key_under}
+use Rattle.mi_world.specs.LeafKeys.{key_under}
 use Rattle.mi_tree.proofs.GrowingLemmas.{grows_none, grows_on}
 use Rattle.mi_key.specs.declared.ranges.Interval.{Interval}
 use Rattle.mi_world.specs.declared.answers.Record.{Record}

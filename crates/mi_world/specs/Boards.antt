@@ -14,7 +14,7 @@ use Rattle.mi_tree.specs.declared.outcomes.Leaf.{Leaf}
 use Rattle.mi_tree.specs.Births.{was_split, splits_in}
 use Rattle.mi_tree.specs.Counting.{is_wanted}
 use Rattle.mi_tree.specs.Legal.{cells_of}
-use Rattle.mi_rules.specs.Standing.{least_key}
+use Rattle.mi_world.specs.LeafKeys.{least_key}
 use Rattle.mi_world.specs.View.{View, Later, SameOwn, SameUpdate, SameLeaf, SameSweep, SameSplit, SameFlags, SameActors, SamePage, SameTry, SeesBoard, SameWork, SameApart, IsFloor}
 
 -- what a look tells: the end of the log, the floor, and the root with its level, which is a page from the lowest key on

@@ -9,7 +9,7 @@ use Rattle.mi_base.specs.Configuration.{Configuration}
 use Rattle.mi_tree.specs.declared.outcomes.Leaf.{Leaf}
 use Rattle.mi_tree.specs.Cells.{same_cell}
 use Rattle.mi_world.specs.declared.answers.Record.{Record}
-use Rattle.mi_rules.specs.Standing.{key_under}
+use Rattle.mi_world.specs.LeafKeys.{key_under}
 use Rattle.mi_world.specs.View.{View}
 
 -- two pivots at 0 and 4, and a leaf is to be split once it has two objects

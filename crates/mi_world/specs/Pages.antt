@@ -29,7 +29,7 @@ use Rattle.mi_world.specs.declared.answers.Visit.TheVariants.{Down, Right, Read}
 use Rattle.mi_world.specs.Boards.{owing, paying}
 use Rattle.mi_world.specs.Claims.{holds_leaf_of}
 use Rattle.mi_key.specs.Shown.{within, below, from_on, offerings}
-use Rattle.mi_rules.specs.Standing.{key_under, shown}
+use Rattle.mi_world.specs.LeafKeys.{key_under, shown}
 use Rattle.mi_tree.specs.Growing.{Grows}
 use Rattle.mi_world.specs.View.{View, Later, SameOwn, SameUpdate, SameLeaf, SameBoard, SameTry, SeesBoard, shard_of, prefix_or, SameWork, SameApart}
 

@@ -14,7 +14,7 @@ use Rattle.mi_world.specs.declared.answers.Put.TheVariants as put
 use Rattle.mi_world.specs.declared.answers.Visit.{Visit}
 use Rattle.mi_world.specs.declared.answers.Visit.TheVariants.{Down, Right, Read}
 use Rattle.mi_world.specs.Pages.{GoesDown, GoesRight, HasTaken, IsReached, IsFullPage, ReadsTo}
-use Rattle.mi_rules.specs.Standing.{greatest_key, least_key}
+use Rattle.mi_world.specs.LeafKeys.{greatest_key, least_key}
 use Rattle.mi_tree.specs.Growing.{Grows}
 use Rattle.mi_world.specs.View.{View, Later, SameUpdate, SameLeaf, SameSweep, SameSplit, SameFlags, SameActors, SameBoard, SamePage, SameTry, SeesBoard, prefix_or}
 

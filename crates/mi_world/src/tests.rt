@@ -7,7 +7,7 @@ ghost use Rattle.mi_key.specs.Entries.{offering_of};
 ghost use Rattle.mi_tree.specs.declared.outcomes.Leaf.{Leaf};
 ghost use Rattle.mi_world.specs.Lone.{lone_dists, lone_end, lone_leaf, lone_log, lone_settings, lone_vector};
 ghost use Rattle.mi_key.specs.Shown.{from_on, offerings, within};
-ghost use Rattle.mi_rules.specs.Standing.{key_under, shown, shown_as};
+ghost use Rattle.mi_world.specs.LeafKeys.{key_under, shown, shown_as};
 
 use crate::{Commit, Parted, Put, Record, ShardClaim, Visit, World};
 use mi_base::{Dists, Id, NoMemory, Perm, Position, Prefix, Vector};

@@ -1,6 +1,6 @@
 use Rattle.std.proofs.Common.{inl, inr, arith}
 use Rattle.mi_metric.proofs.SpentLemmas.{count_spent_left, count_spent_right}
-use Rattle.mi_metric.proofs.counts.count_of_differences.Goals as goal
+use Rattle.mi_metric.proofs.hamming.count_of_differences.Goals as goal
 
 pub returns : goal.returns
 returns c =

@@ -1,6 +1,6 @@
 use Rattle.std.proofs.Common.{◌≡◌, max}
 use Rattle.mi_base.specs.Space.{greatest_difference}
-use Rattle.mi_metric.proofs.maxima.greatest_difference.Given as goal
+use Rattle.mi_metric.proofs.max.greatest_difference.Given as goal
 
 -- the greater of what was met and what is left is the whole's
 abbrev pub invariant-loop-x : goal.invariant-loop-x

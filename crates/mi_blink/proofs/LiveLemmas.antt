@@ -1,5 +1,5 @@
 -- A legal log shows its live objects, each in its leaf.
-use Rattle.std.proofs.Common.{◌≡◌, ℕ, ◌+◌, ◌<◌, ◌≤◌, ◌^◌, List, [], ◌∷◌, ◌++◌, map, length, not, IsTrue, refl, sym, ap, ◌∙◌, subst, arith}
+use Rattle.std.proofs.Common.{◌≡◌, ℕ, ℤ, ◌+◌, ◌<◌, ◌≤◌, ◌^◌, List, [], ◌∷◌, ◌++◌, map, length, not, IsTrue, refl, sym, ap, ◌∙◌, subst, arith}
 use Rattle.std.specs.Prelude.{◌==◌}
 use Rattle.std.specs.List.{AllByRecursion}
 use Rattle.mi_base.specs.declared.records.LogEvent.{LogEvent}
@@ -13,15 +13,36 @@ use Rattle.mi_base.specs.Space.{IsMetric}
 use Rattle.mi_base.proofs.SortingLemmas.{filter_keeps, same_map, same_sorted}
 use Rattle.mi_key.specs.declared.keys.KeyParts.{KeyParts}
 use Rattle.mi_key.specs.Shown.{Shown, object_shown, shown_cmp}
-use Rattle.mi_rules.specs.Standing.{ShowsLive, StandsInLeaf, leaf_parts, shown, shown_as}
+use Rattle.mi_rules.specs.Standing.{ShowsLive, StandsInLeaf}
+use Rattle.mi_world.specs.LeafKeys.{leaf_key, leaf_parts, shown, shown_as}
 use Rattle.mi_rules.proofs.RuleLemmas.{distance_small}
-use Rattle.mi_rules.proofs.StandingLemmas.{leaf_key_parts}
 use Rattle.mi_tree.specs.Births.{Born, born, born_after, born_from, object_born}
 use Rattle.mi_tree.specs.Legal.{EachMayFollow, LegalLog}
 use Rattle.mi_tree.specs.Placing.{grid_under}
 use Rattle.mi_tree.proofs.BirthLemmas.{born_live}
 use Rattle.mi_tree.proofs.ListLemmas.{all_map, all_put, all_weaker, map_twice}
 use Rattle.mi_tree.proofs.SumLemmas.{all_two}
+use Rattle.mi_key.specs.Keys.{FitKey, parts_of}
+use Rattle.mi_key.proofs.ClusterLemmas.{cluster-small}
+use Rattle.mi_key.proofs.KeyLemmas.{parts_of-key_of}
+use Rattle.mi_rules.proofs.BelowLemmas.{all_below-permutation}
+use Rattle.mi_tree.proofs.CatalogLemmas.{depth_is}
+use Rattle.mi_tree.proofs.GridLemmas.{space_is_grid}
+use Rattle.mi_tree.specs.Cells.{depth, leaf_of}
+
+-- what the key of an object is made of in its leaf
+pub leaf_key_parts : (c : Configuration) → IsWithinLimits c → (log : List LogEvent) (id : ℕ) (v : List ℤ) (birth : ℕ) → id < 2 ^ 40 → (grid_under c).distance v < 2 ^ 27 → birth ≤ c.updates
+    → parts_of (leaf_key c log id v birth) ≡ leaf_parts c log id v birth
+leaf_key_parts c limits log id v birth low near born =
+    let g = grid_under c in
+    let perms = (space_is_grid (space_of c) c.levels limits.few_pivots limits.levels).perms v in
+    let below = all_below-permutation (length c.pivots) (depth g log (g.perm v)) (g.perm v) perms.1 perms.0 in
+    parts_of-key_of (leaf_parts c log id v birth) (record {
+      fit_cluster = omega (arith, cluster-small (length c.pivots) c.levels (leaf_of g log (g.perm v)) limits.few_pivots (depth_is (length c.pivots) c.levels limits.levels).0 below);
+      fit_distance = near;
+      fit_id = low;
+      fit_birth = omega (arith, born, limits.updates.1);
+    })
 
 -- a live object was born by an update
 aged : (n : ℕ) (bs : List Born) (us : List Update) → AllByRecursion (λ b. b.birth ≤ n) bs → AllByRecursion (λ b. b.birth ≤ n + length us) (born_from n bs us)

@@ -1,6 +1,6 @@
 use Rattle.std.proofs.Common.{inl, inr, arith}
 use Rattle.mi_metric.proofs.SpentLemmas.{sum_spent_left, sum_spent_right}
-use Rattle.mi_metric.proofs.sums.sum_of_differences.Goals as goal
+use Rattle.mi_metric.proofs.l1.sum_of_differences.Goals as goal
 
 pub returns : goal.returns
 returns c =

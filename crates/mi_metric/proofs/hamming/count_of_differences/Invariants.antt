@@ -1,6 +1,6 @@
 use Rattle.std.proofs.Common.{◌≡◌, ◌+◌}
 use Rattle.mi_base.specs.Space.{count_of_differences}
-use Rattle.mi_metric.proofs.counts.count_of_differences.Given as goal
+use Rattle.mi_metric.proofs.hamming.count_of_differences.Given as goal
 
 -- the count so far and that of the rest are the whole
 abbrev pub invariant-loop-x : goal.invariant-loop-x

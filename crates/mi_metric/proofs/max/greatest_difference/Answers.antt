@@ -1,6 +1,6 @@
 use Rattle.std.proofs.Common.{inl, inr, arith}
 use Rattle.mi_metric.proofs.SpentLemmas.{greatest_spent_left, greatest_spent_right}
-use Rattle.mi_metric.proofs.maxima.greatest_difference.Goals as goal
+use Rattle.mi_metric.proofs.max.greatest_difference.Goals as goal
 
 pub returns : goal.returns
 returns c =

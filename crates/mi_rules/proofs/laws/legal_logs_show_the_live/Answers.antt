@@ -1,5 +1,0 @@
-use Rattle.mi_rules.proofs.ShownLemmas.{shows_live}
-use Rattle.mi_rules.proofs.laws.legal_logs_show_the_live.Goals as goal
-
-pub returns : goal.returns
-returns c = shows_live
