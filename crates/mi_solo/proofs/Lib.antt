@@ -6,3 +6,12 @@ pub mod OwnLemmas
 pub mod SectionLemmas
 pub mod BoardEvents
 pub mod ClaimEvents
+pub mod QuietLemmas
+pub mod DescentLemmas
+pub mod VisitEvents
+pub mod OfferedLemmas
+pub mod ReaderLemmas
+pub mod CommitLemmas
+pub mod CommitEvents
+pub mod EnterEvents
+pub mod CanLemmas

@@ -2,9 +2,13 @@
 #![tactic(auto)]
 
 mod boards;
+mod pages;
 mod views;
 
 pub use boards::{
     looks_follow, pages_are_allotted, pins_follow, reservations_follow, shards_follow,
+};
+pub use pages::{
+    deletes_follow, deletes_may_be, inserts_follow, inserts_may_be, pages_are_shown, visits_follow,
 };
 pub use views::{boards_are_seen, views_go_on};
