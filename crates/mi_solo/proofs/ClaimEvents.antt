@@ -1,21 +1,42 @@
 -- Sections that claim and release shards and leaves, as the trait tells of them.
-use Rattle.std.proofs.Common.{◌≢◌, ℕ, false, refl, sym, ap, ◌∙◌, arith, Some, None, get_or-set_same, ◌==◌}
+use Rattle.std.proofs.Common.{◌≡◌, ◌≢◌, ℕ, List, [], ◌∷◌, length, IsTrue, true, false, refl, sym, ap, ◌∙◌, subst, arith, Option, Some, None, is_some, inl, get_or-set_same, ◌==◌}
 use Rattle.std.specs.Prelude.{slice_get}
 use Rattle.std.specs.List.{find}
 use Rattle.std.proofs.lemmas.Bool.{ne_eqb}
 use Rattle.std.proofs.lemmas.Option.{none-some, same_Some}
-use Rattle.mi_entries.specs.Actors.{Actor}
+use Rattle.mi_base.specs.declared.records.LogEvent.{LogEvent}
+use Rattle.mi_base.specs.Configuration.{Configuration}
+use Rattle.mi_base.specs.Permutations.{begins, is_permutation}
+use Rattle.mi_tree.specs.declared.answers.LeafClaim.TheVariants.{Taken as LeafTaken, Held as LeafHeld}
+use Rattle.mi_tree.specs.declared.outcomes.Leaf.{Leaf}
+use Rattle.mi_tree.specs.Cells.{Grid, IsGrid, is_leaf, leaf_of, leaves}
+use Rattle.mi_tree.specs.Counting.{is_wanted, leaf_with, leaves_beginning, population}
+use Rattle.mi_tree.specs.Legal.{cells_of}
+use Rattle.mi_tree.proofs.CountLemmas.{cat_has}
+use Rattle.mi_tree.proofs.LeafLemmas.{leaf_is}
+use Rattle.mi_tree.proofs.LegalLemmas.{all_may}
+use Rattle.mi_board.specs.Actors.{without_claim}
+use Rattle.mi_entries.specs.Actors.{Actor, SplitWork}
+use Rattle.mi_entries.specs.Entries.{grid}
 use Rattle.mi_entries.specs.Records.{Rows, Shard, held_by, home, no_shard, shard_at}
+use Rattle.mi_entries.proofs.KeyedLemmas.{is_keyed}
+use Rattle.mi_entries.proofs.MemberLemmas.{IsOne, filter_in, map_in}
+use Rattle.mi_core.specs.Effects.{saw}
 use Rattle.mi_core.specs.Events.{after}
-use Rattle.mi_core.specs.Events.Event.{claim_shard, miss_shard, release_shard}
+use Rattle.mi_core.specs.Events.Event.{claim_leaf, claim_shard, miss_shard, refuse, release_leaf, release_shard}
+use Rattle.mi_core.specs.Kept.{Kept}
+use Rattle.mi_core.specs.Refusals.Refusal.{held}
 use Rattle.mi_core.specs.State.{State}
 use Rattle.mi_core.proofs.ActorLemmas.{set_there}
 use Rattle.mi_world.specs.declared.answers.ShardClaim.TheVariants.{Taken as ShardTaken, Held as ShardHeld}
-use Rattle.mi_world.specs.Claims.{ClaimsShard, ReleasesShard}
+use Rattle.mi_world.specs.Claims.{ClaimsLeaf, ClaimsShard, ReleasesLeaf, ReleasesShard}
 use Rattle.mi_solo.specs.Onward.{Makes}
-use Rattle.mi_solo.specs.Viewing.{another, record_shown}
-use Rattle.mi_solo.proofs.OwnLemmas.{later_own, made}
-use Rattle.mi_solo.proofs.SectionLemmas.{another_self, apart_by, own_found, page_by}
+use Rattle.mi_solo.specs.Viewing.{another, holder_from, record_shown}
+use Rattle.mi_solo.proofs.BoardEvents.{board_saw, later_saw, page_saw, there_saw, tries_saw, work_saw}
+use Rattle.mi_solo.proofs.BoardLemmas.{claims_it, holds_it}
+use Rattle.mi_solo.proofs.OwnLemmas.{later_own, made, sees_own}
+use Rattle.mi_solo.proofs.SectionLemmas.{another_self, apart_by, freed, own_found, page_by}
+use Rattle.mi_solo.proofs.ViewLemmas.{wanted_is}
 
 pub claims_shard : (id : ℕ) (kept : Rows) → Makes (claim_shard (home id) kept) (λ s v w. ClaimsShard v w id (ShardTaken (record_shown (find (λ x. x.id == id) kept.records))))
 claims_shard id kept = made (claim_shard (home id) kept) (λ s v w. ClaimsShard v w id (ShardTaken (record_shown (find (λ x. x.id == id) kept.records)))) (λ s k a r there going can.
@@ -85,5 +106,118 @@ releases_shard n kept = made (release_shard n kept) (λ s v w. ReleasesShard v w
         board = record { seen = refl; lacked = refl; told = refl; note = record { allotted = refl; holder = refl; pins = refl; given = refl; retired = refl; passed = refl; root = refl; height = refl } };
         page = page_by s t a r q refl refl;
         tries = record { tried = refl; found = own_found s k a r there n can.0 None kept refl r.tried };
+      },
+    ))
+
+-- who claims no leaf splits none
+pub no_split : (s : State) → Kept s → (a : ℕ) (r : Actor) → slice_get s.actors a ≡ Some r → r.claim ≡ None → is_some r.split ≡ false
+no_split s k a r there free =
+    let P : Option SplitWork → Type 0 = λ o. r.split ≡ o → is_some o ≡ false in
+    (elim r.split as P [ None ↦ λ _. refl | Some w ↦ λ e. absurd (none-some w.leaf (sym free ∙ (k.sound.each a r there).holds.split w e)) ]) refl
+
+module _ (s : State) (k : Kept s) where
+  abbrev c : Configuration
+  c = s.board.settings
+
+  abbrev log : List LogEvent
+  log = s.board.log
+
+  -- the leaf that begins a permutation is its leaf
+  pub leaf_begins : (perm p : List ℕ) → IsTrue (is_permutation perm) → length perm ≡ length c.pivots → is_leaf (grid c) log p ≡ true → begins p perm ≡ true → p ≡ leaf_of (grid c) log perm
+  leaf_begins perm p h long leaf under =
+      let ok : IsGrid (grid c) = (is_keyed c k.sound.limits).grid in
+      let g : Grid = record { pivots = (grid c).pivots; levels = (grid c).levels; perm = λ v. perm; distance = (grid c).distance } in
+      leaf_is g (record { perms = λ v. (h, long); levels = ok.levels; first = ok.first }) log (all_may c log k.sound.legal) p [] leaf under
+
+  -- a leaf of the catalog has its count
+  pub leaf_counted : (leaf : Leaf) → IsOne leaf (cells_of c log) → leaf_with (grid c) (population (grid c) log) leaf.prefix ≡ leaf
+  leaf_counted leaf one =
+      let f : List ℕ → Leaf = leaf_with (grid c) (population (grid c) log) in
+      let m = map_in f (leaves (grid c) log) leaf one in
+      ap (λ (l : Leaf). f l.prefix) (sym m.2) ∙ m.2
+
+pub claims_leaf : (leaf : Leaf) → Makes (claim_leaf leaf.prefix) (λ s v w. (perm : List ℕ) → leaves_beginning perm (cells_of s.board.settings s.board.log) ≡ leaf ∷ [] → ClaimsLeaf v w perm (LeafTaken leaf))
+claims_leaf leaf = made (claim_leaf leaf.prefix) (λ s v w. (perm : List ℕ) → leaves_beginning perm (cells_of s.board.settings s.board.log) ≡ leaf ∷ [] → ClaimsLeaf v w perm (LeafTaken leaf)) (λ s k a r there going can.
+    let t : State = after s a r (claim_leaf leaf.prefix) in
+    let q : Actor = record (saw s.board r) { claim = Some leaf.prefix } in
+    let now = set_there s.actors a q r there in (
+      q,
+      now,
+      λ perm one.
+          let among = filter_in (λ (l : Leaf). begins l.prefix perm) (cells_of s.board.settings s.board.log) leaf (subst (IsOne leaf) (sym one) (inl refl)) in
+          record {
+            later = later_own s k a r there going (claim_leaf leaf.prefix) can q now;
+            lacked = refl;
+            told = refl;
+            update = record { own = refl; shard = refl; records = refl; reserved = refl };
+            apart = apart_by s t a r q refl refl refl refl refl refl;
+            floor = refl;
+            fresh = refl;
+            owes = refl;
+            board = sees_own s k a r there going (claim_leaf leaf.prefix) can q now;
+            page = page_by s t a r q refl refl;
+            tries = record { tried = refl; found = refl };
+            answer = (
+              one,
+              among.1,
+              refl,
+              wanted_is s.board.settings s.board.log leaf.prefix (sym (cat_has (grid s.board.settings) s.board.log leaf.prefix) ∙ can.leaf)
+                  ∙ ap (is_wanted s.board.settings.levels s.board.settings.cell) (leaf_counted s k leaf among.0),
+              no_split s k a r there can.free.claim,
+            );
+          },
+    ))
+
+pub claims_held : (leaf : List ℕ) (by : ℕ) → Makes (refuse (held leaf by)) (λ s v w. (perm : List ℕ) → IsTrue (is_permutation perm) → length perm ≡ length s.board.settings.pivots → begins leaf perm ≡ true → v.leaf ≡ None
+    → ClaimsLeaf v w perm (LeafHeld by))
+claims_held leaf by = made (refuse (held leaf by)) (λ s v w. (perm : List ℕ) → IsTrue (is_permutation perm) → length perm ≡ length s.board.settings.pivots → begins leaf perm ≡ true → v.leaf ≡ None
+    → ClaimsLeaf v w perm (LeafHeld by)) (λ s k a r there going can. (
+      saw s.board r,
+      there_saw s k a r there going,
+      λ perm h long under free.
+          let t = claims_it s k a r there by leaf can.claim in
+          let is = leaf_begins s k perm leaf h long ((k.sound.each by t.0 t.1).holds.leaf leaf t.2) under in
+          record {
+            later = later_saw s k a r there going;
+            lacked = refl;
+            told = refl;
+            update = (work_saw s k a r there going).update;
+            apart = (work_saw s k a r there going).apart;
+            floor = refl;
+            fresh = refl;
+            owes = refl;
+            board = board_saw s k a r there going;
+            page = page_saw s k a r there going;
+            tries = tries_saw s k a r there going;
+            answer = (
+              free,
+              ap (holder_from 0 s.board.actors) (sym is) ∙ holds_it s k by t.0 t.1 leaf t.2,
+              can.other,
+              ap (λ p. begins p perm) (sym is) ∙ under,
+            );
+          },
+    ))
+
+pub releases_leaf : Makes release_leaf (λ s v w. ReleasesLeaf v w)
+releases_leaf = made release_leaf (λ s v w. ReleasesLeaf v w) (λ s k a r there going can.
+    let t : State = after s a r release_leaf in
+    let q : Actor = record (saw s.board r) { claim = None } in
+    let now = set_there s.actors a q r there in (
+      q,
+      now,
+      record {
+        later = later_own s k a r there going release_leaf can q now;
+        lacked = refl;
+        told = refl;
+        update = record { own = refl; shard = refl; records = refl; reserved = refl };
+        leaf = refl;
+        freed = freed s k a r there without_claim (λ x. refl) can.0 can.1;
+        apart = apart_by s t a r q refl refl refl refl refl refl;
+        floor = refl;
+        fresh = refl;
+        owes = refl;
+        board = sees_own s k a r there going release_leaf can q now;
+        page = page_by s t a r q refl refl;
+        tries = record { tried = refl; found = refl };
       },
     ))

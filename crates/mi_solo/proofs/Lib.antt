@@ -15,3 +15,4 @@ pub mod CommitLemmas
 pub mod CommitEvents
 pub mod EnterEvents
 pub mod CanLemmas
+pub mod WorkEvents

@@ -1,17 +1,25 @@
 //! What each section of the board and of a shard makes of its actor's view.
-ghost use Rattle.std.specs.Prelude.{◌≡◌, ◌==◌, ℕ, None, Ok, Err, true};
+ghost use Rattle.std.specs.Prelude.{◌≡◌, ◌==◌, ℕ, List, [], ◌∷◌, IsTrue, None, Some, Bool, Ok, Err, length, true};
 ghost use Rattle.std.specs.List.{find};
 ghost use Rattle.mi_base.specs.declared.refusals.NoMemory.{NoMemory};
+ghost use Rattle.mi_base.specs.History.{end_of};
+ghost use Rattle.mi_base.specs.Permutations.{begins, is_permutation};
 ghost use Rattle.mi_tree.specs.declared.answers.AllotRefusal.TheVariants as allotting;
+ghost use Rattle.mi_tree.specs.declared.answers.LeafClaim.TheVariants.{Held as LeafHeld, Taken as LeafTaken};
 ghost use Rattle.mi_tree.specs.declared.answers.ReserveRefusal.TheVariants as reserving;
+ghost use Rattle.mi_tree.specs.declared.answers.Work.TheVariants as work;
+ghost use Rattle.mi_tree.specs.declared.outcomes.Leaf.{Leaf};
+ghost use Rattle.mi_tree.specs.Counting.{leaves_beginning};
+ghost use Rattle.mi_tree.specs.Legal.{cells_of};
 ghost use Rattle.mi_board.specs.Actors.{with_reserved};
-ghost use Rattle.mi_board.specs.Boards.{look_of, pinned, with_actor};
-ghost use Rattle.mi_core.specs.Events.Event.{allot, claim_shard, lack, look, miss_shard, pin, refuse, release_shard, reserve, see, unpin};
-ghost use Rattle.mi_core.specs.Refusals.Refusal.{full, pages_full};
+ghost use Rattle.mi_board.specs.Boards.{look_of, next_split, pinned, with_actor};
+ghost use Rattle.mi_core.specs.Events.Event.{allot, claim_leaf, claim_shard, give_up, lack, look, miss_shard, no_work, pin, publish, refuse, release_leaf, release_shard, reserve, see, take_split, take_sweep, unpin};
+ghost use Rattle.mi_core.specs.Refusals.Refusal.{full, held, pages_full};
 ghost use Rattle.mi_entries.specs.Records.{Rows, home};
 ghost use Rattle.mi_world.specs.declared.answers.ShardClaim.TheVariants.{Held, Taken};
-ghost use Rattle.mi_world.specs.Boards.{Allots, Looks, Pins, Reserves, Unpins};
-ghost use Rattle.mi_world.specs.Claims.{ClaimsShard, ReleasesShard};
+ghost use Rattle.mi_world.specs.Boards.{Allots, GivesWork, Looks, Pins, Reserves, Unpins};
+ghost use Rattle.mi_world.specs.Claims.{ClaimsLeaf, ClaimsShard, ReleasesLeaf, ReleasesShard};
+ghost use Rattle.mi_world.specs.Splits.{GivesUp, Publishes};
 ghost use Rattle.mi_solo.specs.Onward.{Makes};
 ghost use Rattle.mi_solo.specs.Viewing.{record_shown};
 
@@ -27,6 +35,17 @@ pub fn shards_follow()
     ensures held { (id : ℕ) → Makes (miss_shard (home id)) (λ s v w. ClaimsShard v w id Held) }
     ensures released { (n : ℕ) (kept : Rows) → Makes (release_shard n kept)
         (λ s v w. ReleasesShard v w) }
+{}
+
+/// A leaf that nobody claims is taken, one that another claims isn't, and one's own is let go.
+pub fn claims_follow()
+    ensures taken { (leaf : Leaf) → Makes (claim_leaf leaf.prefix)
+        (λ s v w. (perm : List ℕ) → leaves_beginning perm (cells_of s.board.settings s.board.log) ≡ leaf ∷ []
+        → ClaimsLeaf v w perm (LeafTaken leaf)) }
+    ensures held { (leaf : List ℕ) (by : ℕ) → Makes (refuse (held leaf by))
+        (λ s v w. (perm : List ℕ) → IsTrue (is_permutation perm) → length perm ≡ length s.board.settings.pivots
+        → begins leaf perm ≡ true → v.leaf ≡ None → ClaimsLeaf v w perm (LeafHeld by)) }
+    ensures released { Makes release_leaf (λ s v w. ReleasesLeaf v w) }
 {}
 
 /// Room is reserved, or the log is full, or memory was wanted.
@@ -51,4 +70,19 @@ pub fn pages_are_allotted()
     ensures full { Makes (refuse pages_full)
         (λ s v w. Allots v w (Err (allotting.PagesFull s.board.settings.pages))) }
     ensures memory { Makes lack (λ s v w. Allots v w (Err allotting.Memory)) }
+{}
+
+/// A split is published, or memory was wanted, or it is given up.
+pub fn splits_end()
+    ensures published { Makes publish (λ s v w. Publishes v w (Ok (end_of w.seen))) }
+    ensures memory { (e : NoMemory) → Makes see (λ s v w. Publishes v w (Err e)) }
+    ensures given_up { (pages : Bool) → Makes (give_up pages) (λ s v w. GivesUp v w pages) }
+{}
+
+/// A splitter is given a leaf to sweep, else one to split, else nothing.
+pub fn work_is_given()
+    ensures sweep { (p : List ℕ) → Makes (take_sweep p) (λ s v w. GivesWork v w (work.Sweep p)) }
+    ensures split { (leaf : Leaf) → Makes (take_split leaf.prefix)
+        (λ s v w. next_split s.board ≡ Some leaf → GivesWork v w (work.Split leaf)) }
+    ensures nothing { Makes no_work (λ s v w. GivesWork v w work.Idle) }
 {}

@@ -6,7 +6,8 @@ mod pages;
 mod views;
 
 pub use boards::{
-    looks_follow, pages_are_allotted, pins_follow, reservations_follow, shards_follow,
+    claims_follow, looks_follow, pages_are_allotted, pins_follow, reservations_follow,
+    shards_follow, splits_end, work_is_given,
 };
 pub use pages::{
     deletes_follow, deletes_may_be, inserts_follow, inserts_may_be, pages_are_shown, visits_follow,
