@@ -16,3 +16,5 @@ pub mod CommitEvents
 pub mod EnterEvents
 pub mod CanLemmas
 pub mod WorkEvents
+pub mod RouteEvents
+pub mod RouteLaws

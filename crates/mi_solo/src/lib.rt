@@ -10,6 +10,7 @@ pub use boards::{
     shards_follow, splits_end, work_is_given,
 };
 pub use pages::{
-    deletes_follow, deletes_may_be, inserts_follow, inserts_may_be, pages_are_shown, visits_follow,
+    deletes_follow, deletes_may_be, halves_follow, inserts_follow, inserts_may_be,
+    pages_are_shown, posts_follow, roots_follow, visits_follow,
 };
 pub use views::{boards_are_seen, views_go_on};

@@ -1,25 +1,29 @@
 //! What the sections of pages make of the view of their own actor, call by call. The functions do nothing.
-ghost use Rattle.std.specs.Prelude.{◌≡◌, ◌<◌, ◌≤◌, ◌^◌, ℕ, ℤ, List, Some, None, false, true, length, slice_get, IsTrue, IsSome};
+ghost use Rattle.std.specs.Prelude.{◌≡◌, ◌≢◌, ◌+◌, ◌<◌, ◌≤◌, ◌^◌, ℕ, ℤ, List, Some, None, false, true, length, slice_get, IsTrue, IsSome};
 ghost use Rattle.std.specs.List.{AllByRecursion};
 ghost use Rattle.mi_base.specs.History.{is_live, updates_of};
 ghost use Rattle.mi_base.specs.Permutations.{key_distance, permutation_of};
 ghost use Rattle.mi_key.specs.declared.entries.Entry.{Entry};
 ghost use Rattle.mi_key.specs.declared.ranges.Interval.{Interval};
 ghost use Rattle.mi_page.specs.Entries.{has_entry, has_living, without_dead};
-ghost use Rattle.mi_page.specs.Nodes.{Node};
+ghost use Rattle.mi_page.specs.Nodes.{Node, item_count, middle_key};
 ghost use Rattle.mi_board.specs.Boards as board;
 ghost use Rattle.mi_board.specs.Boards.{HasRoom, MayCommit, crowded_at};
 ghost use Rattle.mi_entries.specs.Actors.{Actor, Pin};
 ghost use Rattle.mi_entries.specs.Entries.{grid};
 ghost use Rattle.mi_entries.specs.Records.{Rows, home, shard_at};
-ghost use Rattle.mi_core.specs.Events.{CanDelete, CanInsert};
-ghost use Rattle.mi_core.specs.Events.Event.{delete, insert, meet, refuse_at, visit};
+ghost use Rattle.mi_core.specs.Effects.{trim_leaf};
+ghost use Rattle.mi_core.specs.Events.{Can, CanDelete, CanInsert, MayPost};
+ghost use Rattle.mi_core.specs.Events.Event.{delete, grow, insert, meet, post, refuse, refuse_at, split_page, trim, visit};
 ghost use Rattle.mi_core.specs.Kept.{Kept};
-ghost use Rattle.mi_core.specs.Refusals.Refusal.{crowded, full, page_full};
+ghost use Rattle.mi_core.specs.Refusals.Refusal.{crowded, full, grown, page_full};
 ghost use Rattle.mi_core.specs.State.{State, node_at};
 ghost use Rattle.mi_world.specs.declared.answers.Commit.TheVariants as commit;
+ghost use Rattle.mi_world.specs.declared.answers.Parted.TheVariants.{Parted, Roomy};
+ghost use Rattle.mi_world.specs.declared.answers.Put.TheVariants as put;
 ghost use Rattle.mi_world.specs.declared.answers.Visit.{Visit};
-ghost use Rattle.mi_world.specs.Pages.{CommitsDelete, CommitsInsert, IsInLeaf, MayDelete, MayInsert, Visits, delete_key, insert_key, next_number, offered_by, pinned};
+ghost use Rattle.mi_world.specs.Boards.{Grew};
+ghost use Rattle.mi_world.specs.Pages.{CommitsDelete, CommitsInsert, IsChildAt, IsInLeaf, MayDelete, MayInsert, PartsPage, Posts, Visits, delete_key, insert_key, next_number, offered_by, pinned};
 ghost use Rattle.mi_solo.specs.Onward.{Makes};
 ghost use Rattle.mi_solo.specs.Seeking.{AnswersVisit, EndsAfter, HasSibling, IsMeasured, PointsDown, PointsRight, ShowsPage, offered_of};
 ghost use Rattle.mi_solo.specs.Viewing.{shown_to};
@@ -101,4 +105,36 @@ pub fn deletes_may_be()
         → CanDelete s r id page node (shard_at s.shards (home id)).rows (delete_key (shown_to s a r) id) }
     ensures living { (s : State) → Kept s → (a : ℕ) (r : Actor) → slice_get s.actors a ≡ Some r → (page : ℕ) (node : Node) → node_at s.pages page ≡ Some node
         → (id : ℕ) (kept : Rows) (key : ℕ) → CanDelete s r id page node kept key → has_living key node.entries ≡ true }
+{}
+
+/// What a halving answers, of a page with room with a trim or without one.
+pub fn halves_follow()
+    ensures parted { (page child : ℕ) (node : Node) → Makes (split_page page node) (λ s v w. v.fresh ≡ Some child → PartsPage v w page (Parted (middle_key node) child)) }
+    ensures roomy { (page : ℕ) (node : Node)
+        → Makes (visit page) (λ s v w. node_at s.pages page ≡ Some node → item_count (trim_leaf v.floor.updates node) < 32 → PartsPage v w page Roomy) }
+    ensures trimmed { (page : ℕ) (node : Node) → Makes (trim page node) (λ s v w. item_count (trim_leaf v.floor.updates node) < 32 → PartsPage v w page Roomy) }
+    ensures full { (s : State) → Kept s → (page : ℕ) (node : Node) → node_at s.pages page ≡ Some node → (floor : ℕ) → item_count (trim_leaf floor node) ≡ 32 → trim_leaf floor node ≡ node }
+{}
+
+/// What a post answers, and when it may be an event.
+pub fn posts_follow()
+    ensures down { (page level key child next : ℕ) (node : Node)
+        → Makes (visit page) (λ s v w. node_at s.pages page ≡ Some node → PointsDown node level key next → Posts v w page level key child (put.Down next)) }
+    ensures right { (page level key child next : ℕ) (node : Node)
+        → Makes (visit page) (λ s v w. node_at s.pages page ≡ Some node → PointsRight node level key next → Posts v w page level key child (put.Right next)) }
+    ensures page_full { (page level key child : ℕ) (node : Node)
+        → Makes (visit page) (λ s v w. node_at s.pages page ≡ Some node → EndsAfter node level key → item_count (trim_leaf v.floor.updates node) ≡ 32
+        → Posts v w page level key child put.PageFull) }
+    ensures done { (page level key child : ℕ) (node : Node) → Makes (post page node key child) (λ s v w. node.level ≡ level → Posts v w page level key child put.Done) }
+    ensures event { (s : State) (a : ℕ) (r : Actor) (level key child : ℕ) → IsChildAt (shown_to s a r) level key child → (page : ℕ) (node : Node) → node_at s.pages page ≡ Some node
+        → (shown_to s a r).low page ≤ key → EndsAfter node level key → length node.routes < 32 → MayPost s node key child }
+{}
+
+/// What a call for a higher root answers, and when it may be an event: where the root is of the level below, and else it is of this level at least.
+pub fn roots_follow()
+    ensures grown { (level key child : ℕ) → Makes (grow level key child) (λ s v w. Grew v w level child true) }
+    ensures same { (level child : ℕ) → Makes (refuse (grown level)) (λ s v w. Grew v w level child false) }
+    ensures event { (s : State) (a : ℕ) (r : Actor) (level key child fresh : ℕ) → IsChildAt (shown_to s a r) level key child → r.fresh ≡ Some fresh → s.board.height + 1 ≡ level
+        → Can s a r (grow level key child) }
+    ensures already { (s : State) → Kept s → (a : ℕ) (r : Actor) (level key child : ℕ) → IsChildAt (shown_to s a r) level key child → s.board.height + 1 ≢ level → level ≤ s.board.height }
 {}
