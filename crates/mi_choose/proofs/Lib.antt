@@ -1,0 +1,4 @@
+pub mod CoverLemmas
+pub mod ApartLemmas
+pub mod PigeonholeLemmas
+pub mod ChoiceLemmas
