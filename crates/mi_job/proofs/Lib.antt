@@ -1,0 +1,5 @@
+pub mod CareLemmas
+pub mod EndLemmas
+pub mod InsertLemmas
+pub mod JobLemmas
+pub mod OthersLemmas

@@ -1,0 +1,4 @@
+pub mod Caring
+pub mod Claims
+pub mod Inserts
+pub mod Jobs

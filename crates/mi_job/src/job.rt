@@ -1,0 +1,84 @@
+//! One operation of a script with its help.
+ghost use Rattle.std.specs.Prelude.{◌≡◌, ◌+◌, false};
+ghost use Rattle.std.specs.List.{AllByRecursion};
+ghost use Rattle.std.specs.Prelude.{IsTrue};
+ghost use Rattle.mi_base.specs.Scripts.{IsOpOver};
+ghost use Rattle.mi_job.specs.Jobs.{Begun, Ready, Turned, is_query, measured_for};
+
+use crate::JobTurn;
+use crate::inserts::InsertJob;
+use mi_base::{Op, Steps};
+use mi_blink::Turn;
+use mi_metric::Metric;
+use mi_perm::Pivots;
+use mi_update::{DeleteOp, InsertOp};
+use mi_world::World;
+use std::alloc::Global;
+use std::sync::ledger::Ledger;
+
+/// An operation under way.
+#[derive(Drop)]
+enum Operation {
+    Insert { insert: InsertJob },
+    Delete { delete: DeleteOp },
+}
+
+/// One operation of a script. It makes the splits that it needs by itself.
+#[derive(Drop)]
+pub struct Job {
+    operation: Operation,
+    /// A section of it was made.
+    begun: bool,
+}
+
+impl Job {
+    /// The operation of this number. Each distance of an insert's vector to a pivot counts as one step.
+    pub fn new<M: Metric, L: Ledger>(
+        op: &Op,
+        number: u32,
+        metric: &M,
+        pivots: &Pivots,
+        steps: &mut Steps<L>,
+    ) -> Job
+        requires update { is_query op.now ≡ false }
+        requires fits { IsOpOver (M.space metric.now) op.now }
+        requires pivots { AllByRecursion (λ p. IsTrue ((M.space metric.now).fits p)) pivots.now }
+        ensures begun { Begun result op.now number (record { metric = M.space metric.now; pivots = pivots.now }) }
+        ensures steps { steps.new ≡ steps.old + measured_for op.now pivots.now }
+    {
+        let operation = match op {
+            Op::Insert { id, vector } => {
+                let dists = pivots.measure(metric, vector, steps);
+                Operation::Insert {
+                    insert: InsertJob::new(InsertOp::new(*id, vector.copy(), dists, number)),
+                }
+            }
+            Op::Delete { id } => Operation::Delete {
+                delete: DeleteOp::new(*id, number),
+            },
+            _ => unreachable!(),
+        };
+        Job {
+            operation,
+            begun: false,
+        }
+    }
+
+    /// Makes one section.
+    pub fn step<W: World>(&mut self, alloc: Global, world: &mut W) -> JobTurn
+        requires ready { Ready self.old (W.view world.old) }
+        ensures turned { Turned self.old (W.view world.old) result self.new (W.view world.new) }
+        ensures section { W.section world.old world.new }
+    {
+        self.begun = true;
+        match &mut self.operation {
+            Operation::Insert { insert } => insert.step(alloc, world),
+            Operation::Delete { delete } => match delete.step(world) {
+                Turn::More => JobTurn::More,
+                Turn::Held => JobTurn::Held,
+                Turn::Crowded { .. } => unreachable!(),
+                Turn::Done { reply } => JobTurn::Done { reply },
+            },
+        }
+    }
+}
