@@ -18,3 +18,6 @@ pub mod CanLemmas
 pub mod WorkEvents
 pub mod RouteEvents
 pub mod RouteLaws
+pub mod CoreLemmas
+pub mod BoardSections
+pub mod ShardSections

@@ -1,8 +1,13 @@
-//! The views of a state, and what the events of the core make of them. The functions do nothing.
+//! The core in code, the views of a state, and what the events of the core make of them. The laws' functions do nothing.
 #![tactic(auto)]
 
+mod board_sections;
 mod boards;
+mod cores;
 mod pages;
+mod rows;
+mod shard_sections;
+mod shards;
 mod views;
 
 pub use boards::{

@@ -1,0 +1,64 @@
+-- What each section does, told by cases on what it answers.
+use Rattle.std.specs.Prelude.{◌≡◌, ◌+◌, ◌==◌, ◌<◌, ℕ, List, [], ◌∷◌, true, length, Option, Some, None, Result, Ok, Err}
+use Rattle.std.specs.List.{find}
+use Rattle.mi_base.specs.declared.refusals.NoMemory.{NoMemory}
+use Rattle.mi_base.specs.Permutations.{begins}
+use Rattle.mi_board.specs.Actors.{with_reserved}
+use Rattle.mi_board.specs.Boards.{BoardState, HasRoom, IsFull, look_of, with_actor}
+use Rattle.mi_core.specs.Events.{hand, leaf_or}
+use Rattle.mi_core.specs.Events.Event.{claim_leaf, claim_shard, miss_shard, pin, refuse, reserve, see}
+use Rattle.mi_core.specs.Refusals.Refusal.{full, held}
+use Rattle.mi_core.specs.State.{State}
+use Rattle.mi_entries.specs.Records.{Rows, Shard, held_by, home, shard_at}
+use Rattle.mi_solo.specs.States.{Does, actor_in}
+use Rattle.mi_solo.specs.Viewing.{record_shown}
+use Rattle.mi_tree.specs.declared.answers.LeafClaim.{LeafClaim}
+use Rattle.mi_tree.specs.declared.answers.LeafClaim.TheVariants.{Taken as LeafTaken, Held as LeafHeld}
+use Rattle.mi_tree.specs.declared.answers.Look.{Look}
+use Rattle.mi_tree.specs.declared.answers.ReserveRefusal.{ReserveRefusal}
+use Rattle.mi_tree.specs.declared.answers.ReserveRefusal.TheVariants as refused
+use Rattle.mi_tree.specs.Counting.{leaves_beginning}
+use Rattle.mi_tree.specs.Legal.{cells_of}
+use Rattle.mi_world.specs.declared.answers.ShardClaim.{ShardClaim}
+use Rattle.mi_world.specs.declared.answers.ShardClaim.TheVariants.{Taken as ShardTaken, Held as ShardHeld}
+
+-- the shard that an actor holds, and the leaf that it claims
+abbrev pub shard_in : State → ℕ → ℕ
+shard_in s a = hand (actor_in s a).shard
+
+abbrev pub leaf_in : State → ℕ → List ℕ
+leaf_in s a = leaf_or (actor_in s a).claim
+
+-- the records of a shard, with its room
+abbrev pub rows_at : State → ℕ → Rows
+rows_at s k = (shard_at s.shards k).rows
+
+-- room for one update is taken on the board and in a shard; else the log is full, or memory is wanted
+abbrev pub Promises : BoardState → Shard → ℕ → Result Look ReserveRefusal → BoardState → Shard → Type 0
+Promises board shard a (Ok look) new kept =
+    HasRoom board × (look ≡ look_of new) × (new ≡ with_actor (with_reserved true) a board) × (kept ≡ held_by shard.holder (record shard.rows { room = length shard.rows.records + 1 }))
+Promises board shard a (Err (refused.Full limit)) new kept = IsFull board limit × (new ≡ board) × (kept ≡ shard)
+Promises board shard a (Err refused.Memory) new kept = (new ≡ board) × (kept ≡ shard)
+
+-- the shard of an identifier is taken, with the identifier's record, or another actor holds it
+abbrev pub ClaimsShard : State → ℕ → ℕ → ShardClaim → State → Type 0
+ClaimsShard s a id (ShardTaken kept) t =
+    Does s a (claim_shard (home id) (rows_at s (home id))) t × (kept ≡ record_shown (find (λ x. x.id == id) (rows_at s (home id)).records))
+ClaimsShard s a id ShardHeld t = Does s a (miss_shard (home id)) t
+
+-- room for one update is reserved, or the log is full, or memory is wanted
+abbrev pub Reserves : State → ℕ → Result Look ReserveRefusal → State → Type 0
+Reserves s a (Ok look) t =
+    Does s a (reserve (shard_in s a) (rows_at s (shard_in s a)) (length (rows_at s (shard_in s a)).records + 1)) t × (look ≡ look_of t.board)
+Reserves s a (Err (refused.Full limit)) t = Does s a (refuse full) t × (limit ≡ s.board.settings.updates)
+Reserves s a (Err refused.Memory) t = Does s a see t
+
+-- the leaf of a permutation is claimed, or another actor claims it
+abbrev pub ClaimsLeaf : State → ℕ → List ℕ → LeafClaim → State → Type 0
+ClaimsLeaf s a perm (LeafTaken leaf) t = Does s a (claim_leaf leaf.prefix) t × (leaves_beginning perm (cells_of s.board.settings s.board.log) ≡ leaf ∷ [])
+ClaimsLeaf s a perm (LeafHeld by) t = (leaf : List ℕ) × Does s a (refuse (held leaf by)) t × (begins leaf perm ≡ true)
+
+-- the whole log is pinned, or memory is wanted
+abbrev pub Pins : State → ℕ → Result Look NoMemory → State → Type 0
+Pins s a (Ok look) t = Does s a pin t × (look ≡ look_of t.board)
+Pins s a (Err e) t = Does s a see t

@@ -1,0 +1,76 @@
+-- The state that a core stands for, and what one section of an actor makes of it.
+use Rattle.std.specs.Prelude.{◌≡◌, ◌<◌, ℕ, ◌+◌, List, [], ◌∷◌, false, length, map, Option, Some, None, slice_index_or}
+use Rattle.std.specs.Arc.{arc_value}
+use Rattle.mi_base.specs.declared.records.LogEvent.{LogEvent}
+use Rattle.mi_core.specs.Actors.{made_by}
+use Rattle.mi_core.specs.Events.{Can, Event, after, first_actor}
+use Rattle.mi_core.specs.State.{State}
+use Rattle.mi_entries.specs.Actors.{Actor, Owed, Pin, SplitWork, SweepWork}
+use Rattle.mi_solo.specs.declared.cores.Core.{Core}
+use Rattle.mi_solo.specs.declared.rows.ActorRow.{ActorRow}
+use Rattle.mi_solo.specs.declared.rows.OwedRow.{OwedRow}
+use Rattle.mi_solo.specs.declared.rows.PinRow.{PinRow}
+use Rattle.mi_solo.specs.declared.rows.SplitRow.{SplitRow}
+use Rattle.mi_solo.specs.declared.rows.SweepRow.{SweepRow}
+
+-- what the rows stand for
+abbrev pub pin_of : Option PinRow → Option Pin
+pin_of None = None
+pin_of (Some p) = Some (record { at = p.at; cells = (arc_value p.cells).leaves })
+
+abbrev pub split_of : Option SplitRow → Option SplitWork
+split_of None = None
+split_of (Some w) = Some (record { leaf = w.leaf; mark = w.mark; gathered = w.gathered.items; copied = w.copied })
+
+abbrev pub sweep_of : Option SweepRow → Option SweepWork
+sweep_of None = None
+sweep_of (Some w) = Some (record { leaf = w.leaf; mark = w.mark })
+
+abbrev pub owed_of : OwedRow → Owed
+owed_of o = record { level = o.level; key = o.key; child = o.child }
+
+-- the record of the actor of a number: its own updates are those that the log has of it
+abbrev pub actor_of : List LogEvent → ℕ → ActorRow → Actor
+actor_of log a r = record {
+  seen = r.seen;
+  own = made_by a log;
+  floor = r.floor;
+  reserved = r.reserved;
+  reserved_here = r.reserved_here;
+  shard = r.shard;
+  claim = r.claim;
+  sweep = sweep_of r.sweep;
+  pin = pin_of r.pin;
+  split = split_of r.split;
+  fresh = r.fresh;
+  owed = map owed_of r.owed.items;
+  page = r.page;
+  tried = r.tried;
+  found = r.found;
+  lacked = r.lacked;
+  undone = r.undone;
+  early = r.early;
+  ended = r.ended;
+}
+
+-- the records of actors numbered from n on
+abbrev pub actors_of : List LogEvent → ℕ → List ActorRow → List Actor
+actors_of log n [] = []
+actors_of log n (r ∷ rows) = actor_of log n r ∷ actors_of log (n + 1) rows
+
+abbrev pub state_of : Core → State
+state_of c = record { board = c.board; shards = c.shards.items; pages = c.pages.items; actors = actors_of c.board.log 0 c.actors.items }
+
+-- the record of an actor
+abbrev pub actor_in : State → ℕ → Actor
+actor_in s a = slice_index_or s.actors a first_actor
+
+-- the actor was made, and hasn't ended
+pub record IsGoing (c : Core) (a : ℕ) : Type 0 where
+  pub known : a < length c.actors.items
+  pub going : (actor_in (state_of c) a).ended ≡ false
+
+-- one event of this actor leads from s to t
+pub record Does (s : State) (a : ℕ) (e : Event) (t : State) : Type 0 where
+  pub can : Can s a (actor_in s a) e
+  pub is : t ≡ after s a (actor_in s a) e

@@ -1,0 +1,117 @@
+//! Sections of the board.
+ghost use Rattle.std.specs.Prelude.{◌≡◌, None, IsSome, length};
+ghost use Rattle.mi_board.specs.Boards.{look_of};
+ghost use Rattle.mi_core.specs.Events.Event.{look, release_leaf, unpin};
+ghost use Rattle.mi_core.specs.Kept.{Kept};
+ghost use Rattle.mi_solo.specs.Sections.{ClaimsLeaf, Pins, Reserves};
+ghost use Rattle.mi_solo.specs.States.{Does, IsGoing, actor_in, state_of};
+
+use crate::cores::Core;
+use crate::rows::PinRow;
+use mi_base::{NoMemory, Perm, Steps};
+use mi_tree::{LeafClaim, Look, ReserveRefusal};
+use std::alloc::Global;
+use std::sync::ledger::Ledger;
+
+impl Core {
+    /// Sees the whole log.
+    pub fn look(&mut self, actor: u32) -> Look
+        requires { IsGoing self.old actor }
+        ensures told { Does (state_of self.old) actor look (state_of self.new) }
+        ensures look { result ≡ look_of self.old.board }
+    {
+        self.actors[actor as usize].look(&self.board);
+        self.board.look()
+    }
+
+    /// Reserves room for one update.
+    pub fn reserve(&mut self, actor: u32) -> Result<Look, ReserveRefusal>
+        requires going { IsGoing self.old actor }
+        requires kept { Kept (state_of self.old) }
+        requires shard { IsSome (actor_in (state_of self.old) actor).shard }
+        ensures { Reserves (state_of self.old) actor result (state_of self.new) }
+    {
+        let floor = self.board.look().floor;
+        let me = &mut self.actors[actor as usize];
+        let Some(shard) = me.shard else {
+            unreachable!();
+        };
+        match self.shards[shard as usize].reserve(&mut self.board, actor) {
+            Ok(look) => {
+                me.reserve(&self.board, floor);
+                Ok(look)
+            }
+            Err(refusal) => {
+                me.see(&self.board);
+                Err(refusal)
+            }
+        }
+    }
+
+    /// Claims the leaf of the permutation, unless another actor does.
+    pub fn claim_leaf(&mut self, actor: u32, perm: &Perm) -> LeafClaim
+        requires going { IsGoing self.old actor }
+        requires kept { Kept (state_of self.old) }
+        requires long { length perm.now ≡ length self.old.board.settings.pivots }
+        requires free { (actor_in (state_of self.old) actor).claim ≡ None }
+        requires idle { (actor_in (state_of self.old) actor).sweep ≡ None }
+        ensures { ClaimsLeaf (state_of self.old) actor perm.now result (state_of self.new) }
+    {
+        let claim = self.board.claim_leaf(actor, perm);
+        let me = &mut self.actors[actor as usize];
+        match &claim {
+            LeafClaim::Taken { leaf } => me.take_leaf(&self.board, &leaf.prefix),
+            LeafClaim::Held { .. } => me.see(&self.board),
+        }
+        claim
+    }
+
+    /// Ends the claim of the leaf.
+    pub fn release_leaf(&mut self, actor: u32)
+        requires going { IsGoing self.old actor }
+        requires kept { Kept (state_of self.old) }
+        requires claimed { IsSome (actor_in (state_of self.old) actor).claim }
+        requires whole { (actor_in (state_of self.old) actor).split ≡ None }
+        ensures { Does (state_of self.old) actor release_leaf (state_of self.new) }
+    {
+        self.board.release_leaf(actor);
+        self.actors[actor as usize].leave_leaf(&self.board);
+    }
+
+    /// Pins the whole log.
+    pub fn pin<L: Ledger>(
+        &mut self,
+        alloc: Global,
+        actor: u32,
+        steps: &mut Steps<L>,
+    ) -> Result<Look, NoMemory>
+        requires going { IsGoing self.old actor }
+        requires kept { Kept (state_of self.old) }
+        requires free { (actor_in (state_of self.old) actor).pin ≡ None }
+        ensures { Pins (state_of self.old) actor result (state_of self.new) }
+    {
+        let floor = self.board.look().floor;
+        match self.board.pin(alloc, actor, steps) {
+            Ok((look, cells)) => {
+                let pin = PinRow { at: look.at, cells };
+                self.actors[actor as usize].pin(&self.board, floor, pin);
+                Ok(look)
+            }
+            Err(refusal) => {
+                self.actors[actor as usize].see(&self.board);
+                Err(refusal)
+            }
+        }
+    }
+
+    /// Ends the pin.
+    pub fn unpin(&mut self, actor: u32)
+        requires going { IsGoing self.old actor }
+        requires kept { Kept (state_of self.old) }
+        requires pinned { IsSome (actor_in (state_of self.old) actor).pin }
+        ensures { Does (state_of self.old) actor unpin (state_of self.new) }
+    {
+        self.board.unpin(actor);
+        self.actors[actor as usize].unpin(&self.board);
+    }
+}

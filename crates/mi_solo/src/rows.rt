@@ -1,0 +1,201 @@
+//! What the core keeps of each actor.
+ghost use Rattle.std.specs.Prelude.{◌≡◌, ℕ, [], None, Some, true, false, length};
+ghost use Rattle.mi_board.specs.Boards.{floor_of};
+ghost use Rattle.mi_core.specs.Events.{first_actor};
+ghost use Rattle.mi_solo.specs.States.{actor_of};
+
+use mi_base::{Position, Prefix};
+use mi_board::Board;
+use mi_key::{Entry, Key};
+use mi_page::Page;
+use mi_tree::Catalog;
+use std::alloc::Global;
+use std::marker::Model;
+use std::sync::Arc;
+
+/// A pinned position with its cells, which pins of one position share.
+#[derive(Drop)]
+pub struct PinRow {
+    pub at: Position,
+    pub cells: Arc<Catalog, Global>,
+}
+
+/// A split under way: its leaf, the key up to which it has gathered, what it gathered, and how much of that it has copied.
+#[derive(Drop)]
+pub struct SplitRow {
+    pub leaf: Prefix,
+    pub mark: Key,
+    pub gathered: Vec<Entry>,
+    pub copied: usize,
+}
+
+/// A sweep under way: its leaf, and the key up to which it has swept.
+#[derive(Drop)]
+pub struct SweepRow {
+    pub leaf: Prefix,
+    pub mark: Key,
+}
+
+/// A route that its actor has yet to post.
+#[derive(Drop)]
+pub struct OwedRow {
+    pub level: u32,
+    pub key: Key,
+    pub child: u32,
+}
+
+/// A page that is allotted and linked nowhere, with its number.
+#[derive(Drop)]
+pub struct FreshPage {
+    number: u32,
+    page: Page,
+}
+
+impl Model for FreshPage {
+    ghost use Rattle.std.specs.Prelude.{◌≡◌, ℕ};
+    ghost use Rattle.mi_page.specs.Nodes.{fresh_node};
+
+    ghost Value = { ℕ };
+
+    ghost view = { λ f. f.number };
+
+    ghost invariant = { λ f. f.page ≡ fresh_node };
+}
+
+/// What is known of one actor. Its own updates are those that the log has of it.
+#[derive(Drop)]
+pub struct ActorRow {
+    pub seen: usize,
+    pub floor: Position,
+    pub reserved: bool,
+    pub reserved_here: bool,
+    pub shard: Option<u32>,
+    pub claim: Option<Prefix>,
+    pub sweep: Option<SweepRow>,
+    pub pin: Option<PinRow>,
+    pub split: Option<SplitRow>,
+    pub fresh: Option<FreshPage>,
+    pub owed: Vec<OwedRow>,
+    pub page: u32,
+    pub tried: u32,
+    pub found: Option<u32>,
+    pub lacked: bool,
+    pub undone: bool,
+    pub early: bool,
+    pub ended: bool,
+}
+
+impl ActorRow {
+    /// An actor at the opening, which has seen nothing and holds nothing.
+    pub fn first(alloc: Global) -> ActorRow
+        ensures { (a : ℕ) → actor_of [] a result ≡ first_actor }
+    {
+        ActorRow {
+            seen: 0,
+            floor: Position {
+                updates: 0,
+                splits: 0,
+            },
+            reserved: false,
+            reserved_here: false,
+            shard: None,
+            claim: None,
+            sweep: None,
+            pin: None,
+            split: None,
+            fresh: None,
+            owed: Vec::new(alloc),
+            page: 0,
+            tried: 0,
+            found: None,
+            lacked: false,
+            undone: false,
+            early: false,
+            ended: false,
+        }
+    }
+
+    /// It has seen the whole log.
+    pub fn see(&mut self, board: &Board)
+        ensures { self.new ≡ record self.old { seen = length board.now.log } }
+    {
+        self.seen = board.log().len();
+    }
+
+    /// It has seen the whole log, and the floor of this moment.
+    pub fn look(&mut self, board: &Board)
+        ensures { self.new ≡ record self.old { seen = length board.now.log; floor = floor_of board.now } }
+    {
+        self.seen = board.log().len();
+        self.floor = board.look().floor;
+    }
+
+    /// It found another actor at the shard.
+    pub fn miss_shard(&mut self, shard: u32, by: Option<u32>)
+        ensures { self.new ≡ record self.old { tried = shard; found = by } }
+    {
+        self.tried = shard;
+        self.found = by;
+    }
+
+    /// It holds the shard.
+    pub fn take_shard(&mut self, shard: u32)
+        ensures { self.new ≡ record self.old { shard = Some shard; tried = shard; found = None; reserved_here = false } }
+    {
+        self.shard = Some(shard);
+        self.tried = shard;
+        self.found = None;
+        self.reserved_here = false;
+    }
+
+    /// It holds no shard any more.
+    pub fn leave_shard(&mut self)
+        ensures { self.new ≡ record self.old { shard = None; reserved_here = false } }
+    {
+        self.shard = None;
+        self.reserved_here = false;
+    }
+
+    /// It has reserved an update, and seen the floor before that.
+    pub fn reserve(&mut self, board: &Board, floor: Position)
+        ensures { self.new ≡ record self.old { seen = length board.now.log; floor = floor; reserved = true; reserved_here = true } }
+    {
+        self.see(board);
+        self.floor = floor;
+        self.reserved = true;
+        self.reserved_here = true;
+    }
+
+    /// It claims the leaf of the prefix.
+    pub fn take_leaf(&mut self, board: &Board, prefix: &Prefix)
+        ensures { self.new ≡ record self.old { seen = length board.now.log; claim = Some prefix.now } }
+    {
+        self.see(board);
+        self.claim = Some(prefix.copy());
+    }
+
+    /// It claims no leaf any more.
+    pub fn leave_leaf(&mut self, board: &Board)
+        ensures { self.new ≡ record self.old { seen = length board.now.log; claim = None } }
+    {
+        self.see(board);
+        self.claim = None;
+    }
+
+    /// It has pinned this position, and seen the floor before that.
+    pub fn pin(&mut self, board: &Board, floor: Position, pin: PinRow)
+        ensures { self.new ≡ record self.old { seen = length board.now.log; floor = floor; pin = Some pin } }
+    {
+        self.see(board);
+        self.floor = floor;
+        self.pin = Some(pin);
+    }
+
+    /// It has no pin any more.
+    pub fn unpin(&mut self, board: &Board)
+        ensures { self.new ≡ record self.old { seen = length board.now.log; pin = None } }
+    {
+        self.see(board);
+        self.pin = None;
+    }
+}
