@@ -1,5 +1,5 @@
 -- What a range query keeps of the leaves that pass is the scan.
-use Rattle.std.proofs.Common.{◌≡◌, ℕ, suc, zero, ℤ, ◌+◌, ◌≤◌, List, [], ◌∷◌, ◌++◌, map, length, take, Bool, true, false, cond, IsTrue, Some, nat_le, refl, sym, ap, ◌∙◌, subst, arith, append_assoc, append-nil, zero-add}
+use Rattle.std.proofs.Common.{◌≡◌, ℕ, suc, zero, ℤ, ◌+◌, ◌≤◌, List, [], ◌∷◌, ◌++◌, map, length, take, Bool, true, false, cond, IsTrue, Some, nat_le, refl, sym, ap, ◌∙◌, arith, append_assoc, append-nil, zero-add}
 use Rattle.std.specs.Prelude.{count_by, slice_get}
 use Rattle.std.specs.List.{AllByRecursion, filter, sum_by}
 use Rattle.std.proofs.lemmas.List.{length-map, map-append}
@@ -9,7 +9,7 @@ use Rattle.mi_base.specs.declared.records.Row.{Row}
 use Rattle.mi_base.specs.Configuration.{Configuration, IsWithinLimits, metric_space, space_of}
 use Rattle.mi_base.specs.History.{Object, hits, live, range_scan, row_cmp, row_of, updates_of}
 use Rattle.mi_base.specs.Permutations.{distances}
-use Rattle.mi_base.specs.Sorting.{SameElements, sorted}
+use Rattle.mi_base.specs.Sorting.{sorted}
 use Rattle.mi_base.specs.Space.{IsMetric, MetricSpace}
 use Rattle.mi_base.proofs.HistoryLemmas.{row_exact, row_total, sorted-hits}
 use Rattle.mi_base.proofs.LiveLemmas.{few_live}

@@ -1,16 +1,19 @@
 //! What a range query keeps of the entries that it is offered.
-ghost use Rattle.std.specs.Prelude.{◌≡◌, ◌+◌, ◌≤◌, ◌<◌, ◌^◌, [], ◌∷◌, IsTrue, OnOk, OnErr};
+ghost use Rattle.std.specs.Prelude.{◌≡◌, ◌+◌, ◌≤◌, ◌<◌, ◌^◌, [], ◌∷◌, IsTrue, OnOk, OnErr, length};
 ghost use Rattle.arrayvec.specs.ArrayVec.{array_vec_len};
 ghost use Rattle.mi_base.specs.History.{row_cmp};
 ghost use Rattle.mi_base.specs.Sorting.{sorted};
 ghost use Rattle.mi_key.specs.Entries.{offering_of};
 ghost use Rattle.mi_rules.specs.Answers.{AreMeasured};
+ghost use Rattle.mi_range.specs.Leaves.{AreOfPivots, FindsLeaf};
 ghost use Rattle.mi_range.specs.Ranging.{TakesRange};
 
+use crate::leaves::{Opening, next_leaf};
 use mi_base::{Dists, NoMemory, Position, Reply, Row, Rows, Steps, Vector, sort_rows};
 use mi_key::Entry;
 use mi_metric::Metric;
 use mi_rules::filter;
+use mi_tree::Catalog;
 use std::alloc::Global;
 use std::marker::Model;
 use std::sync::ledger::Ledger;
@@ -84,6 +87,15 @@ impl RangeWork {
             let id = entry.key.parts().id;
             self.rows.push_reserved(Row { distance, id });
         }
+    }
+
+    /// The first leaf from a place on that passes.
+    pub(crate) fn next_leaf(&self, catalog: &Catalog, from: usize) -> Option<Opening>
+        requires levels { catalog.now.levels ≤ 6 }
+        requires fit { AreOfPivots (length self.now.dists) catalog.now.levels catalog.now.leaves }
+        ensures { FindsLeaf self.now.dists self.now.radius catalog.now.levels catalog.now.leaves from result }
+    {
+        next_leaf(catalog, from, &self.dists, self.radius)
     }
 
     /// The answer with its rows in their order. It takes no memory.
