@@ -1,147 +1,85 @@
 -- The end of a split, and a splitter's next work, as the trait tells of them.
-use Rattle.std.proofs.Common.{◌≡◌, ℕ, suc, zero, ◌+◌, ◌-◌, ◌<◌, ◌==◌, List, [], ◌∷◌, ◌++◌, append-nil, length, map, take, drop, Bool, true, false, cond, not, ◌&&◌, ◌||◌, IsTrue, nat_lt, refl, sym, ap, ◌∙◌, subst, arith, Some, None, is_some, set, eq-eqb}
-use Rattle.std.specs.Prelude.{slice_get, slice_index_or, Ok, Err}
+use Rattle.std.proofs.Common.{◌≡◌, ℕ, suc, zero, ◌+◌, ◌-◌, ◌<◌, List, [], ◌∷◌, ◌++◌, append-nil, length, drop, Bool, true, false, cond, not, ◌&&◌, ◌||◌, refl, sym, ap, ◌∙◌, subst, arith, Option, Some, None, is_some, set}
+use Rattle.std.specs.Prelude.{slice_get, slice_index_or, Result, Ok, Err}
 use Rattle.std.specs.List.{filter, find, list_any}
-use Rattle.std.proofs.Math.Bool.{and_comm}
-use Rattle.std.proofs.lemmas.Bool.{false≢true, lt-ltb}
-use Rattle.std.proofs.lemmas.List.{length-drop, length-map, take_all}
+use Rattle.std.proofs.lemmas.List.{length-drop}
 use Rattle.std.proofs.lemmas.Map.Views.{any-filter_same}
 use Rattle.std.proofs.lemmas.Option.{none-some, same_Some}
 use Rattle.mi_base.specs.declared.refusals.NoMemory.{NoMemory}
 use Rattle.mi_base.specs.declared.records.LogEvent.{LogEvent}
 use Rattle.mi_base.specs.declared.records.LogEvent.TheVariants.{Split}
+use Rattle.mi_base.specs.declared.records.Position.{Position}
 use Rattle.mi_base.specs.Configuration.{Configuration}
-use Rattle.mi_base.specs.History.{Object, at_position, end_of, live, updates_of}
-use Rattle.mi_base.specs.Permutations.{begins}
-use Rattle.mi_base.proofs.SortingLemmas.{same_filter, same_length}
-use Rattle.mi_key.specs.declared.entries.Entry.{Entry}
+use Rattle.mi_base.specs.History.{at_position, end_of}
+use Rattle.mi_tree.specs.declared.answers.Work.{Work}
 use Rattle.mi_tree.specs.declared.answers.Work.TheVariants as work
 use Rattle.mi_tree.specs.declared.outcomes.Leaf.{Leaf}
-use Rattle.mi_tree.specs.Births.{Born, born, splits_in, was_split}
+use Rattle.mi_tree.specs.Births.{splits_in, was_split}
 use Rattle.mi_tree.specs.Catalog.{prefixes_of}
-use Rattle.mi_tree.specs.Cells.{Grid, AllMaySplit, leaves, same_cell}
-use Rattle.mi_tree.specs.Counting.{belongs, is_wanted, leaf_with, population}
+use Rattle.mi_tree.specs.Cells.{same_cell}
+use Rattle.mi_tree.specs.Counting.{is_wanted}
 use Rattle.mi_tree.specs.Legal.{MayFollow, cells_of}
-use Rattle.mi_tree.proofs.CatLemmas.{held_live}
 use Rattle.mi_tree.proofs.CountLemmas.{any_map, cat_has}
-use Rattle.mi_tree.proofs.LeafLemmas.{begins_is, same_cell_is}
-use Rattle.mi_tree.proofs.LegalLemmas.{all_may}
-use Rattle.mi_tree.proofs.ListLemmas.{all_any, all_weaker, filter_map, filter_same, filter_twice}
 use Rattle.mi_board.specs.Actors.{idle, is_claim, is_claimed, with_claim, without_claim}
 use Rattle.mi_board.specs.Boards.{prefix_or as claimed, floor_of, is_open, is_passed, leaf_claimed, next_split, passing, with_split}
-use Rattle.mi_board.specs.Floors.{earliest_in}
+use Rattle.mi_board.specs.Floors.{earliest_in, least_pin}
 use Rattle.mi_board.specs.declared.actors.ActorState.{ActorState}
-use Rattle.mi_entries.specs.Actors.{Actor, SplitWork}
-use Rattle.mi_entries.specs.Entries.{HasPlace, Shows, born_in, counts, grid, is_under, key_in, under}
+use Rattle.mi_entries.specs.Actors.{Actor, SplitWork, SweepWork}
+use Rattle.mi_entries.specs.Entries.{grid}
 use Rattle.mi_entries.specs.Marks.{cell_range}
-use Rattle.mi_entries.specs.Splits.{IsWork, copy_in_child}
-use Rattle.mi_entries.proofs.ContentLemmas.{counts_down}
-use Rattle.mi_entries.proofs.DepthLemmas.{IsKeyed, leaf_deep}
-use Rattle.mi_entries.proofs.FilterLemmas.{all_where}
-use Rattle.mi_entries.proofs.KeyedLemmas.{is_keyed}
-use Rattle.mi_entries.proofs.RecordLemmas.{born_live, object}
-use Rattle.mi_entries.proofs.RetiredLemmas.{below_end}
-use Rattle.mi_forest.specs.Forests.{all_entries}
 use Rattle.mi_core.specs.Claims.{last_of}
 use Rattle.mi_core.specs.Effects.{looked, saw}
-use Rattle.mi_core.specs.Events.{IsWhole, after, leaf_or}
+use Rattle.mi_core.specs.Events.{after, leaf_or}
 use Rattle.mi_core.specs.Events.Event.{give_up, no_work, publish, see, take_split, take_sweep}
 use Rattle.mi_core.specs.Kept.{Kept}
-use Rattle.mi_core.specs.Pages.{forest_of}
 use Rattle.mi_core.specs.State.{State, board_actor}
 use Rattle.mi_core.proofs.ActorLemmas.{set_there}
 use Rattle.mi_core.proofs.FloorLemmas.{least_same}
-use Rattle.mi_core.proofs.KeptLemmas.{floor_position}
 use Rattle.mi_core.proofs.NextLemmas.{next_swept, next_wanted}
 use Rattle.mi_core.proofs.PageLemmas.{fun_same}
-use Rattle.mi_world.specs.Boards.{GivesWork, first_may_be_swept, is_free}
-use Rattle.mi_world.specs.Splits.{GivesUp, Publishes}
-use Rattle.mi_world.specs.View.{View, prefix_or}
+use Rattle.mi_world.specs.Boards.{GivesWork, WorkAnswer, first_may_be_swept, is_free}
+use Rattle.mi_world.specs.Splits.{GivesUp, PublishAnswer, Publishes}
+use Rattle.mi_world.specs.View.{Later, SeesBoard, View, prefix_or}
 use Rattle.mi_solo.specs.Onward.{Makes}
-use Rattle.mi_solo.specs.Viewing.{copy_keys, holder_from, shown_to}
-use Rattle.mi_solo.proofs.BoardEvents.{board_saw, later_saw, page_saw, there_saw, tries_saw, work_saw}
+use Rattle.mi_solo.specs.Viewing.{holder_from, pinned_log, shown_to}
+use Rattle.mi_solo.proofs.BoardEvents.{board_saw, later_saw, there_saw}
 use Rattle.mi_solo.proofs.ClaimEvents.{no_split}
+use Rattle.mi_solo.proofs.GatheredLemmas.{all_copied}
 use Rattle.mi_solo.proofs.OwnLemmas.{later_own, made, sees_own}
 use Rattle.mi_solo.proofs.SectionLemmas.{floor_is, freed, page_by, split_by}
 use Rattle.mi_solo.proofs.ViewLemmas.{not_claim, pin_more}
 
--- the entries that count in a leaf are as many as its live objects
-under_live : (g : Grid) (log : List LogEvent) (F : List Entry) (p : List ℕ) → Shows g log F → length (filter (counts g log) (under g p F)) ≡ length (filter (belongs g p) (live (updates_of log)))
-under_live g log F p shows =
-    let U : Born → Bool = λ o. begins p (g.perm o.vector) in
-    let turned : filter (counts g log) (under g p F) ≡ filter (is_under g p) (filter (counts g log) F) =
-    filter_twice (counts g log) (is_under g p) F ∙ filter_same (λ e. is_under g p e && counts g log e) (λ e. counts g log e && is_under g p e) F (all_any _ (λ e. and_comm (is_under g p e) (counts g log e)) F)
-    ∙ sym (filter_twice (is_under g p) (counts g log) F) in
-    ap (λ (es : List Entry). length es) turned
-    ∙ sym (length-map (filter (is_under g p) (filter (counts g log) F)) born_in)
-    ∙ ap (λ (os : List Born). length os) (filter_map born_in U (filter (counts g log) F))
-    ∙ same_length _ _ (same_filter U _ _ shows.same)
-    ∙ sym (length-map (filter U (born (updates_of log))) object)
-    ∙ ap (λ (os : List Object). length os) (filter_map object (belongs g p) (born (updates_of log)))
-    ∙ ap (λ (os : List Object). length (filter (belongs g p) os)) (born_live (updates_of log))
+-- the log, the board's actors, what is retired and what is passed over, and a record with its claim and its split
+module _ (s : State) (a : ℕ) (r : Actor) (log : List LogEvent) (actors : List ActorState) (retired passed : List (List ℕ)) (claim : Option (List ℕ)) (split : Option SplitWork) where
+  abbrev split_actor : Actor
+  split_actor = record r { seen = length log; claim = claim; split = split }
 
--- a leaf of this prefix passes what its count passes
-any_leaf : (f : List ℕ → Leaf) → ((p : List ℕ) → (f p).prefix ≡ p) → (t : Leaf → Bool) (p : List ℕ) → t (f p) ≡ true → (ls : List (List ℕ)) → list_any (same_cell p) ls ≡ true → list_any (λ (l : Leaf). same_cell p l.prefix && t l) (map f ls) ≡ true
-any_leaf f named t p h [] there = absurd (false≢true there)
-any_leaf f named t p h (q ∷ ls) there =
-    let rest : Bool = list_any (λ (l : Leaf). same_cell p l.prefix && t l) (map f ls) in
-    let P : Bool → Type 0 = λ b. same_cell p q ≡ b → (b || list_any (same_cell p) ls) ≡ true → ((b && t (f q)) || rest) ≡ true in
-    ap (λ z. (same_cell p z && t (f q)) || rest) (named q)
-    ∙ (elim (same_cell p q) as P [
-      | true ↦ λ e _. ap (λ z. t (f z) || rest) (sym (same_cell_is p q e)) ∙ ap (λ b. b || rest) h
-      | false ↦ λ e u. any_leaf f named t p h ls u
-    ]) refl there
+  abbrev split_state : State
+  split_state = record { board = record s.board { log = log; actors = actors; retired = retired; passed_over = passed }; shards = s.shards; pages = s.pages; actors = set s.actors a split_actor }
 
--- a split that has gathered its whole leaf has as many entries as the leaf has live objects
-module _ (s : State) (k : Kept s) (a : ℕ) (r : Actor) (there : slice_get s.actors a ≡ Some r) (w : SplitWork) (may : IsWhole s r w) where
-  abbrev c : Configuration
-  c = s.board.settings
-
-  abbrev g : Grid
-  g = grid s.board.settings
-
-  abbrev log : List LogEvent
-  log = s.board.log
-
-  abbrev F : List Entry
-  F = all_entries (forest_of s.board s.pages s.actors k.sound.chain)
-
-  works : IsWork g log F w
-  works = k.sound.entries.works a r w there may.split
-
-  past : (e : Entry) → HasPlace c log s.actors s.board.retired e → is_under g w.leaf e ≡ true → (counts g log e && nat_lt e.key w.mark) ≡ counts g log e
-  past e h t =
-      let P : Bool → Type 0 = λ b. counts g log e ≡ b → (b && nat_lt e.key w.mark) ≡ b in
-      (elim (counts g log e) as P [
-        | false ↦ λ _. refl
-        | true ↦ λ n.
-            let ok : IsKeyed g = is_keyed c k.sound.limits in
-            let may_split : AllMaySplit g log = all_may c log k.sound.legal in
-            let d : h.is.down ≡ length w.leaf = counts_down c ok log may_split e h.is n ∙ leaf_deep g ok log may_split w.leaf e.vector works.leaf t in
-            let cell : take h.is.down (g.perm e.vector) ≡ w.leaf = ap (λ m. take m (g.perm e.vector)) d ∙ sym (begins_is w.leaf (g.perm e.vector) t) in
-            let key : e.key ≡ key_in g w.leaf (born_in e) = h.is.keyed ∙ ap (λ (p : List ℕ). key_in g p (born_in e)) cell in
-            lt-ltb e.key w.mark (let m = may.whole in omega (arith, key, below_end g w.leaf (born_in e) h.is.fits))
-      ]) refl
-
-  gathered_all : length w.gathered ≡ length (filter (belongs g w.leaf) (live (updates_of log)))
-  gathered_all =
-      ap (λ (es : List Entry). length es) (works.gathered
-      ∙ filter_same (λ e. counts g log e && nat_lt e.key w.mark) (counts g log) (under g w.leaf F) (all_where _ (is_under g w.leaf) F (all_weaker _ _ (λ e h t. past e h t) F k.sound.entries.places)))
-      ∙ under_live g log F w.leaf (subst (λ (l : List LogEvent). Shows g l F) (take_all (length log) log (omega arith)) (k.sound.entries.shows (length log) (floor_position s k.sound).within (omega arith)))
-
-  -- all its live objects have their copies
-  pub all_copied : IsTrue (list_any (λ (l : Leaf). same_cell (prefix_or r.claim) l.prefix && (l.count == length (copy_keys c r.split))) (cells_of c log))
-  all_copied =
-      let n : ℕ = length (copy_keys c r.split) in
-      let size : n ≡ length w.gathered = ap (λ o. length (copy_keys c o)) may.split ∙ length-map w.gathered (λ e. (copy_in_child g w.leaf e).key) in
-      let claim : r.claim ≡ Some w.leaf = (k.sound.each a r there).holds.split w may.split in
-      let f : List ℕ → Leaf = leaf_with g (population g log) in
-      let count : (f w.leaf).count ≡ n = ap (λ (os : List Object). length (filter (belongs g w.leaf) os)) (held_live g log) ∙ sym (size ∙ gathered_all) in
-      subst (λ p. IsTrue (list_any (λ (l : Leaf). same_cell p l.prefix && (l.count == n)) (cells_of c log))) (sym (ap prefix_or claim))
-      (any_leaf f (λ p. refl) (λ l. l.count == n) w.leaf (eq-eqb (f w.leaf).count n count) (leaves g log) works.leaf)
+  publishes_by : pinned_log log r.pin ≡ pinned_log s.board.log r.pin → Later (shown_to s a r) (shown_to split_state a split_actor) → SeesBoard (shown_to split_state a split_actor)
+      → (result : Result Position NoMemory) → PublishAnswer (shown_to s a r) (shown_to split_state a split_actor) result → Publishes (shown_to s a r) (shown_to split_state a split_actor) result
+  publishes_by pin later board result answer = record {
+    later = later;
+    lacked = refl;
+    told = refl;
+    update = record { own = refl; shard = refl; records = refl; reserved = refl };
+    sweep = record { sweep = refl; swept = refl };
+    flags = record { undone = refl; early = refl };
+    actors = record { absorbed = refl; forked = refl };
+    pin = pin;
+    floor = refl;
+    fresh = refl;
+    owes = refl;
+    board = board;
+    page = page_by s split_state a r split_actor refl refl;
+    tries = record { tried = refl; found = refl };
+    answer = answer;
+  }
 
 pub publishes : Makes publish (λ s v w. Publishes v w (Ok (end_of w.seen)))
 publishes = made publish (λ s v w. Publishes v w (Ok (end_of w.seen))) (λ s k a r there going can.
+    let log = s.board.log in
     let t : State = after s a r publish in
     let q : Actor = record (saw (with_split (leaf_or r.claim) a s.board) r) { claim = None; split = None } in
     let now = set_there s.actors a q r there in
@@ -149,60 +87,32 @@ publishes = made publish (λ s v w. Publishes v w (Ok (end_of w.seen))) (λ s k 
     let same : leaf_or r.claim ≡ prefix_or r.claim = ap leaf_or claim ∙ sym (ap prefix_or claim) in (
       q,
       now,
-      record {
-        later = later_own s k a r there going publish can q now;
-        lacked = refl;
-        told = refl;
-        update = record { own = refl; shard = refl; records = refl; reserved = refl };
-        sweep = record { sweep = refl; swept = refl };
-        flags = record { undone = refl; early = refl };
-        actors = record { absorbed = refl; forked = refl };
-        pin = pin_more s.board.log (Split (leaf_or r.claim) ∷ []) r.pin (λ p is. ((k.sound.each a r there).saw.pin p is).0);
-        floor = refl;
-        fresh = refl;
-        owes = refl;
-        board = sees_own s k a r there going publish can q now;
-        page = page_by s t a r q refl refl;
-        tries = record { tried = refl; found = refl };
-        answer = record {
-          before = s.board.log;
-          grows = record { by = []; is = sym (append-nil s.board.log) };
-          wanted = subst (λ p. MayFollow s.board.settings s.board.log (Split p)) (sym (ap prefix_or claim)) can.3;
-          seen = ap (λ p. s.board.log ++ Split p ∷ []) same;
-          at_is = refl;
-          all = all_copied s k a r there can.0 can.1;
-          unclaimed = refl;
-          freed = freed s k a r there without_claim (λ x. refl) can.0.leaf claim;
-          over = refl;
-          earlier = s.board.retired;
-          retired = ap (λ p. s.board.retired ++ p ∷ []) same;
-          unpassed = ap (λ p. list_any (same_cell (prefix_or r.claim)) (filter (λ z. not (same_cell p z)) s.board.passed_over)) same
-              ∙ any-filter_same (same_cell (prefix_or r.claim)) (λ z. not (same_cell (prefix_or r.claim) z)) false (λ z e. ap not e) s.board.passed_over;
-        };
-      },
+      publishes_by s a r t.board.log t.board.actors t.board.retired t.board.passed_over None None
+          (pin_more log (Split (leaf_or r.claim) ∷ []) r.pin (λ p is. ((k.sound.each a r there).saw.pin p is).0))
+          (later_own s k a r there going publish can q now) (sees_own s k a r there going publish can q now) (Ok (end_of t.board.log)) (record {
+            before = log;
+            grows = record { by = []; is = sym (append-nil log) };
+            wanted = subst (λ p. MayFollow s.board.settings log (Split p)) (sym (ap prefix_or claim)) can.3;
+            seen = ap (λ p. log ++ Split p ∷ []) same;
+            at_is = refl;
+            all = all_copied s k a r there can.0 can.1;
+            unclaimed = refl;
+            freed = freed s k a r there without_claim (λ x. refl) can.0.leaf claim;
+            over = refl;
+            earlier = s.board.retired;
+            retired = ap (λ p. s.board.retired ++ p ∷ []) same;
+            unpassed = ap (λ p. list_any (same_cell (prefix_or r.claim)) (filter (λ z. not (same_cell p z)) s.board.passed_over)) same
+                ∙ any-filter_same (same_cell (prefix_or r.claim)) (λ z. not (same_cell (prefix_or r.claim) z)) false (λ z e. ap not e) s.board.passed_over;
+          }),
     ))
 
 pub publishes_none : (e : NoMemory) → Makes see (λ s v w. Publishes v w (Err e))
 publishes_none e = made see (λ s v w. Publishes v w (Err e)) (λ s k a r there going can. (
   saw s.board r,
   there_saw s k a r there going,
-  record {
-    later = later_saw s k a r there going;
-    lacked = refl;
-    told = refl;
-    update = (work_saw s k a r there going).update;
-    sweep = (work_saw s k a r there going).apart.sweep;
-    flags = (work_saw s k a r there going).apart.flags;
-    actors = (work_saw s k a r there going).apart.actors;
-    pin = refl;
-    floor = refl;
-    fresh = refl;
-    owes = refl;
-    board = board_saw s k a r there going;
-    page = page_saw s k a r there going;
-    tries = tries_saw s k a r there going;
-    answer = ((work_saw s k a r there going).leaf, (work_saw s k a r there going).apart.split);
-  },
+  publishes_by s a r s.board.log s.board.actors s.board.retired s.board.passed_over r.claim r.split refl
+      (later_saw s k a r there going) (board_saw s k a r there going) (Err e)
+      (record { leaf = refl; wanted = refl }, split_by s (after s a r see) a r (saw s.board r) refl refl),
 ))
 
 -- a leaf that is claimed is passed over once it is given up for want of pages
@@ -283,32 +193,46 @@ open_free s v settings passed = fun_same _ _ (λ (l : Leaf).
     ∙ ap (λ b. is_wanted v.settings.levels v.settings.cell l && (not b && not (is_passed l.prefix s.board))) (sym (held_claimed 0 s.board.actors l.prefix))
     ∙ ap (λ b. is_wanted v.settings.levels v.settings.cell l && (not (is_some (holder_from 0 s.board.actors l.prefix)) && not b)) (sym (passed l.prefix)))
 
+-- what is given changes the board's actors and what is retired, and the record's claim and sweep
+module _ (s : State) (a : ℕ) (r : Actor) (actors : List ActorState) (retired : List (List ℕ)) (claim : Option (List ℕ)) (sweep : Option SweepWork) where
+  abbrev work_actor : Actor
+  work_actor = record (looked s.board r) { claim = claim; sweep = sweep }
+
+  abbrev work_state : State
+  work_state = record { board = record s.board { actors = actors; retired = retired }; shards = s.shards; pages = s.pages; actors = set s.actors a work_actor }
+
+  gives_by : least_pin (end_of s.board.log) actors ≡ floor_of s.board → Later (shown_to s a r) (shown_to work_state a work_actor) → SeesBoard (shown_to work_state a work_actor)
+      → (result : Work) → WorkAnswer (shown_to s a r) (shown_to work_state a work_actor) result → GivesWork (shown_to s a r) (shown_to work_state a work_actor) result
+  gives_by same later board result answer = record {
+    later = later;
+    lacked = refl;
+    told = refl;
+    update = record { own = refl; shard = refl; records = refl; reserved = refl };
+    split = split_by s work_state a r work_actor refl refl;
+    flags = record { undone = refl; early = refl };
+    actors = record { absorbed = refl; forked = refl };
+    pin = refl;
+    fresh = refl;
+    owes = refl;
+    floor = floor_is work_state a work_actor (sym same);
+    board = board;
+    page = page_by s work_state a r work_actor refl refl;
+    tries = record { tried = refl; found = refl };
+    answer = answer;
+  }
+
 pub gives_sweep : (p : List ℕ) → Makes (take_sweep p) (λ s v w. GivesWork v w (work.Sweep p))
 gives_sweep p = made (take_sweep p) (λ s v w. GivesWork v w (work.Sweep p)) (λ s k a r there going can.
-    let t : State = after s a r (take_sweep p) in
-    let q : Actor = record (looked s.board r) { sweep = Some (record { leaf = p; mark = (cell_range (grid s.board.settings) p).from }) } in
+    let sweep : SweepWork = record { leaf = p; mark = (cell_range (grid s.board.settings) p).from } in
+    let q : Actor = record (looked s.board r) { sweep = Some sweep } in
     let now = set_there s.actors a q r there in
     let first = next_swept (at_position s.board.log (floor_of s.board)) s.board.retired p can.1 in
     let given = given_next s.board.retired (splits_in s.board.log) first.0 p first.1 k.sound.order in (
       q,
       now,
-      record {
-        later = later_own s k a r there going (take_sweep p) can q now;
-        lacked = refl;
-        told = refl;
-        update = record { own = refl; shard = refl; records = refl; reserved = refl };
-        split = split_by s t a r q refl refl;
-        flags = record { undone = refl; early = refl };
-        actors = record { absorbed = refl; forked = refl };
-        pin = refl;
-        fresh = refl;
-        owes = refl;
-        floor = floor_is t a q refl;
-        board = sees_own s k a r there going (take_sweep p) can q now;
-        page = page_by s t a r q refl refl;
-        tries = record { tried = refl; found = refl };
-        answer = (record { one_more = given.0; was_first = given.1; below = first.2 }, refl, refl, record { leaf = refl; wanted = refl });
-      },
+      gives_by s a r s.board.actors (drop 1 s.board.retired) r.claim (Some sweep) refl
+          (later_own s k a r there going (take_sweep p) can q now) (sees_own s k a r there going (take_sweep p) can q now) (work.Sweep p)
+          (record { one_more = given.0; was_first = given.1; below = first.2 }, refl, refl, record { leaf = refl; wanted = refl }),
     ))
 
 pub gives_split : (leaf : Leaf) → Makes (take_split leaf.prefix) (λ s v w. next_split s.board ≡ Some leaf → GivesWork v w (work.Split leaf))
@@ -316,68 +240,35 @@ gives_split leaf = made (take_split leaf.prefix) (λ s v w. next_split s.board �
     let t : State = after s a r (take_split leaf.prefix) in
     let q : Actor = record (looked s.board r) { claim = Some leaf.prefix } in
     let now = set_there s.actors a q r there in
-    let v : View = shown_to t a q in
     let mine : (board_actor s.board a).claim ≡ None = (k.sound.each a r there).holds.claim ∙ can.0.claim in (
       q,
       now,
-      λ next. record {
-        later = later_own s k a r there going (take_split leaf.prefix) can q now;
-        lacked = refl;
-        told = refl;
-        update = record { own = refl; shard = refl; records = refl; reserved = refl };
-        split = split_by s t a r q refl refl;
-        flags = record { undone = refl; early = refl };
-        actors = record { absorbed = refl; forked = refl };
-        pin = refl;
-        fresh = refl;
-        owes = refl;
-        floor = floor_is t a q (sym (least_same (with_claim leaf.prefix) (λ x. refl) (end_of s.board.log) s.board.actors a));
-        board = sees_own s k a r there going (take_split leaf.prefix) can q now;
-        page = page_by s t a r q refl refl;
-        tries = record { tried = refl; found = refl };
-        answer = (
-          not_first v s.board.retired can.1,
-          record {
-            before = holder_from 0 s.board.actors;
-            others = λ p other. holder_else 0 s.board.actors p a (with_claim leaf.prefix (board_actor s.board a)) (not_claim p (Some leaf.prefix) (λ e. other (sym (same_Some leaf.prefix p e)))) (ap (is_claim p) mine);
-            first = ap (λ f. find f (cells_of s.board.settings s.board.log)) (sym (open_free s v refl (λ p. refl))) ∙ next;
-          },
-          refl,
-          next_wanted s leaf next,
-          record { sweep = refl; swept = refl },
-          no_split s k a r there can.0.claim,
-        );
-      },
+      λ next. gives_by s a r t.board.actors s.board.retired (Some leaf.prefix) r.sweep (least_same (with_claim leaf.prefix) (λ x. refl) (end_of s.board.log) s.board.actors a)
+          (later_own s k a r there going (take_split leaf.prefix) can q now) (sees_own s k a r there going (take_split leaf.prefix) can q now) (work.Split leaf) (
+            not_first (shown_to t a q) s.board.retired can.1,
+            record {
+              before = holder_from 0 s.board.actors;
+              others = λ p other. holder_else 0 s.board.actors p a (with_claim leaf.prefix (board_actor s.board a)) (not_claim p (Some leaf.prefix) (λ e. other (sym (same_Some leaf.prefix p e)))) (ap (is_claim p) mine);
+              first = ap (λ f. find f (cells_of s.board.settings s.board.log)) (sym (open_free s (shown_to t a q) refl (λ p. refl))) ∙ next;
+            },
+            refl,
+            next_wanted s leaf next,
+            record { sweep = refl; swept = refl },
+            no_split s k a r there can.0.claim,
+          ),
     ))
 
 pub gives_nothing : Makes no_work (λ s v w. GivesWork v w work.Idle)
 gives_nothing = made no_work (λ s v w. GivesWork v w work.Idle) (λ s k a r there going can.
-    let t : State = after s a r no_work in
     let q : Actor = looked s.board r in
     let now = set_there s.actors a q r there in
-    let v : View = shown_to t a q in (
+    let v : View = shown_to (after s a r no_work) a q in (
       q,
       now,
-      record {
-        later = later_own s k a r there going no_work can q now;
-        lacked = refl;
-        told = refl;
-        update = record { own = refl; shard = refl; records = refl; reserved = refl };
-        split = split_by s t a r q refl refl;
-        flags = record { undone = refl; early = refl };
-        actors = record { absorbed = refl; forked = refl };
-        pin = refl;
-        fresh = refl;
-        owes = refl;
-        floor = floor_is t a q refl;
-        board = sees_own s k a r there going no_work can q now;
-        page = page_by s t a r q refl refl;
-        tries = record { tried = refl; found = refl };
-        answer = (
-          not_first v s.board.retired can.1,
-          ap (λ f. find f (cells_of s.board.settings s.board.log)) (sym (open_free s v refl (λ p. refl))) ∙ can.2,
-          record { leaf = refl; wanted = refl },
-          record { sweep = refl; swept = refl },
-        );
-      },
+      gives_by s a r s.board.actors s.board.retired r.claim r.sweep refl (later_own s k a r there going no_work can q now) (sees_own s k a r there going no_work can q now) work.Idle (
+        not_first v s.board.retired can.1,
+        ap (λ f. find f (cells_of s.board.settings s.board.log)) (sym (open_free s v refl (λ p. refl))) ∙ can.2,
+        record { leaf = refl; wanted = refl },
+        record { sweep = refl; swept = refl },
+      ),
     ))

@@ -1,11 +1,12 @@
 //! What each section of the board and of a shard makes of its actor's view.
-ghost use Rattle.std.specs.Prelude.{◌≡◌, ◌==◌, ℕ, List, [], ◌∷◌, IsTrue, None, Some, Bool, Ok, Err, length, true};
+ghost use Rattle.std.specs.Prelude.{◌≡◌, ◌==◌, ℕ, List, [], ◌∷◌, length, map, slice_get, true};
+ghost use Rattle.std.specs.Prelude.{Bool, Err, IsSome, IsTrue, None, Ok, Some};
 ghost use Rattle.std.specs.List.{find};
 ghost use Rattle.mi_base.specs.declared.refusals.NoMemory.{NoMemory};
 ghost use Rattle.mi_base.specs.History.{end_of};
 ghost use Rattle.mi_base.specs.Permutations.{begins, is_permutation};
 ghost use Rattle.mi_tree.specs.declared.answers.AllotRefusal.TheVariants as allotting;
-ghost use Rattle.mi_tree.specs.declared.answers.LeafClaim.TheVariants.{Held as LeafHeld, Taken as LeafTaken};
+ghost use Rattle.mi_tree.specs.declared.answers.LeafClaim.TheVariants as claiming;
 ghost use Rattle.mi_tree.specs.declared.answers.ReserveRefusal.TheVariants as reserving;
 ghost use Rattle.mi_tree.specs.declared.answers.Work.TheVariants as work;
 ghost use Rattle.mi_tree.specs.declared.outcomes.Leaf.{Leaf};
@@ -13,22 +14,32 @@ ghost use Rattle.mi_tree.specs.Counting.{leaves_beginning};
 ghost use Rattle.mi_tree.specs.Legal.{cells_of};
 ghost use Rattle.mi_board.specs.Actors.{with_reserved};
 ghost use Rattle.mi_board.specs.Boards.{look_of, next_split, pinned, with_actor};
-ghost use Rattle.mi_core.specs.Events.Event.{allot, claim_leaf, claim_shard, give_up, lack, look, miss_shard, no_work, pin, publish, refuse, release_leaf, release_shard, reserve, see, take_split, take_sweep, unpin};
+ghost use Rattle.mi_board.specs.Boards.{MayPublish, leaf_claimed};
+ghost use Rattle.mi_core.specs.Events.{Can};
+ghost use Rattle.mi_core.specs.Events.Event.{claim_leaf, release_leaf};
+ghost use Rattle.mi_core.specs.Events.Event.{claim_shard, miss_shard, release_shard};
+ghost use Rattle.mi_core.specs.Events.Event.{allot, lack, look, pin, refuse, reserve, see, unpin};
+ghost use Rattle.mi_core.specs.Events.Event.{give_up, no_work, publish, take_split, take_sweep};
+ghost use Rattle.mi_core.specs.Kept.{Kept};
 ghost use Rattle.mi_core.specs.Refusals.Refusal.{full, held, pages_full};
+ghost use Rattle.mi_core.specs.State.{State};
+ghost use Rattle.mi_entries.specs.Actors.{Actor, SplitWork};
 ghost use Rattle.mi_entries.specs.Records.{Rows, home};
 ghost use Rattle.mi_world.specs.declared.answers.ShardClaim.TheVariants.{Held, Taken};
 ghost use Rattle.mi_world.specs.Boards.{Allots, GivesWork, Looks, Pins, Reserves, Unpins};
 ghost use Rattle.mi_world.specs.Claims.{ClaimsLeaf, ClaimsShard, ReleasesLeaf, ReleasesShard};
-ghost use Rattle.mi_world.specs.Splits.{GivesUp, Publishes};
+ghost use Rattle.mi_world.specs.Splits.{GivesUp, IsGathered, Publishes, copied_in};
 ghost use Rattle.mi_solo.specs.Onward.{Makes};
-ghost use Rattle.mi_solo.specs.Viewing.{record_shown};
+ghost use Rattle.mi_solo.specs.Placing.{placed_entry};
+ghost use Rattle.mi_solo.specs.Viewing.{record_shown, shown_to};
 
 /// A look tells where the board stands.
 pub fn looks_follow()
     ensures { Makes look (λ s v w. Looks v w (look_of s.board)) }
 {}
 
-/// A shard that nobody holds is taken with the identifier's record, one that another holds isn't, and one's own is let go.
+/// A shard that nobody holds is taken with the identifier's record, one that another holds isn't,
+/// and one's own is let go.
 pub fn shards_follow()
     ensures taken { (id : ℕ) (kept : Rows) → Makes (claim_shard (home id) kept)
         (λ s v w. ClaimsShard v w id (Taken (record_shown (find (λ x. x.id == id) kept.records)))) }
@@ -40,11 +51,13 @@ pub fn shards_follow()
 /// A leaf that nobody claims is taken, one that another claims isn't, and one's own is let go.
 pub fn claims_follow()
     ensures taken { (leaf : Leaf) → Makes (claim_leaf leaf.prefix)
-        (λ s v w. (perm : List ℕ) → leaves_beginning perm (cells_of s.board.settings s.board.log) ≡ leaf ∷ []
-        → ClaimsLeaf v w perm (LeafTaken leaf)) }
+        (λ s v w. (perm : List ℕ)
+        → leaves_beginning perm (cells_of s.board.settings s.board.log) ≡ leaf ∷ []
+        → ClaimsLeaf v w perm (claiming.Taken leaf)) }
     ensures held { (leaf : List ℕ) (by : ℕ) → Makes (refuse (held leaf by))
-        (λ s v w. (perm : List ℕ) → IsTrue (is_permutation perm) → length perm ≡ length s.board.settings.pivots
-        → begins leaf perm ≡ true → v.leaf ≡ None → ClaimsLeaf v w perm (LeafHeld by)) }
+        (λ s v w. (perm : List ℕ) → IsTrue (is_permutation perm)
+        → length perm ≡ length s.board.settings.pivots
+        → begins leaf perm ≡ true → v.leaf ≡ None → ClaimsLeaf v w perm (claiming.Held by)) }
     ensures released { Makes release_leaf (λ s v w. ReleasesLeaf v w) }
 {}
 
@@ -77,6 +90,20 @@ pub fn splits_end()
     ensures published { Makes publish (λ s v w. Publishes v w (Ok (end_of w.seen))) }
     ensures memory { (e : NoMemory) → Makes see (λ s v w. Publishes v w (Err e)) }
     ensures given_up { (pages : Bool) → Makes (give_up pages) (λ s v w. GivesUp v w pages) }
+{}
+
+/// A split that the trait lets be published or given up may be, and of one that is published the
+/// board takes the objects as its entries place them.
+pub fn splits_may_end()
+    ensures published { (s : State) → Kept s → (a : ℕ) (r : Actor) → slice_get s.actors a ≡ Some r
+        → IsGathered (shown_to s a r) → (shown_to s a r).copied ≡ length (shown_to s a r).copies
+        → Can s a r publish }
+    ensures board { (s : State) → Kept s → (a : ℕ) (r : Actor) → slice_get s.actors a ≡ Some r
+        → Can s a r publish → (w : SplitWork) → r.split ≡ Some w
+        → MayPublish s.board a (map placed_entry w.gathered) (leaf_claimed s.board a) }
+    ensures given_up { (s : State) → Kept s → (a : ℕ) (r : Actor) → slice_get s.actors a ≡ Some r
+        → (pages : Bool) → IsSome (shown_to s a r).leaf → copied_in (shown_to s a r) ≡ 0
+        → (IsTrue pages → IsTrue (shown_to s a r).told) → Can s a r (give_up pages) }
 {}
 
 /// A splitter is given a leaf to sweep, else one to split, else nothing.

@@ -12,7 +12,7 @@ mod views;
 
 pub use boards::{
     claims_follow, looks_follow, pages_are_allotted, pins_follow, reservations_follow,
-    shards_follow, splits_end, work_is_given,
+    shards_follow, splits_end, splits_may_end, work_is_given,
 };
 pub use pages::{
     deletes_follow, deletes_may_be, halves_follow, inserts_follow, inserts_may_be,
