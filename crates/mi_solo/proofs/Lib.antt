@@ -22,3 +22,7 @@ pub mod RouteLaws
 pub mod CoreLemmas
 pub mod BoardSections
 pub mod ShardSections
+pub mod MarkLemmas
+pub mod GatherEvents
+pub mod CopyEvents
+pub mod SweepEvents

@@ -58,6 +58,11 @@ abbrev pub ReadsOn : Node → ℕ → Option ℕ → Type 0
 ReadsOn n to None = is_below n.high to ≡ true
 ReadsOn n to (Some p) = EndsBefore n to p
 
+-- the right sibling of a page, and none exactly where it has no end
+abbrev pub TrimsTo : Node → Option ℕ → Type 0
+TrimsTo n None = n.high ≡ None
+TrimsTo n (Some p) = (high : ℕ) × (n.high ≡ Some high) × (n.right ≡ Some p) × IsSmall n.high
+
 -- what a visit for an interval answers of a page
 abbrev pub AnswersVisit : Node → Interval → Visit → Type 0
 AnswersVisit n range (Down p) = PointsDown n 0 range.from p

@@ -8,6 +8,7 @@ mod pages;
 mod rows;
 mod shard_sections;
 mod shards;
+mod splits;
 mod views;
 
 pub use boards::{
@@ -17,5 +18,8 @@ pub use boards::{
 pub use pages::{
     deletes_follow, deletes_may_be, halves_follow, inserts_follow, inserts_may_be,
     pages_are_shown, posts_follow, roots_follow, visits_follow,
+};
+pub use splits::{
+    copies_follow, gathers_follow, sweeps_follow, trims_follow, uncopies_follow,
 };
 pub use views::{boards_are_seen, views_go_on};
