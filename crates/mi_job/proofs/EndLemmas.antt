@@ -9,6 +9,7 @@ use Rattle.mi_base.specs.History.{Entered}
 use Rattle.mi_legal.specs.Legal.{reach}
 use Rattle.mi_world.specs.View.{View}
 use Rattle.mi_blink.specs.Descents.{longest}
+use Rattle.mi_range.proofs.OthersLemmas.{few_sections}
 use Rattle.mi_split.specs.declared.split.SplitOp.{SplitOp}
 use Rattle.mi_split.specs.Splitting.{split_most}
 use Rattle.mi_split.proofs.BoundLemmas.{split_small, sweep_small}
@@ -21,7 +22,7 @@ use Rattle.mi_job.specs.declared.care.Task.{Task}
 use Rattle.mi_job.specs.declared.care.Task.TheVariants.{Sweep, Split}
 use Rattle.mi_job.specs.declared.job.Job.{Job}
 use Rattle.mi_job.specs.declared.job.Operation.{Operation}
-use Rattle.mi_job.specs.declared.job.Operation.TheVariants.{Insert, Delete}
+use Rattle.mi_job.specs.declared.job.Operation.TheVariants.{Insert, Delete, Range}
 use Rattle.mi_job.specs.declared.turns.JobTurn.{JobTurn}
 use Rattle.mi_job.specs.declared.turns.JobTurn.TheVariants.{Done}
 use Rattle.mi_job.specs.Caring as caring
@@ -82,18 +83,19 @@ long_fits : longest + 7 ≤ round split_most
 unfolding round
 long_fits = omega arith
 
-next_small : (i : InsertOp) (s : Option SplitOp) (v : View) → v.settings.levels ≤ 6 → inserts.NextIsReady i s v → inserts.left_of i s v < job_most
+next_small : (i : InsertOp) (s : Option SplitOp) (v : View) → v.settings.levels ≤ 6 → inserts.NextIsReady i s v → inserts.left_of i s v < 7 * round split_most
 next_small i None v deep h = insert_small split_most i v deep h
 next_small i (Some s) v deep h =
     let m : splits_left i v * round split_most ≤ 6 * round split_most = mul-le-mul_right (round split_most) (omega (arith, deep)) in
     omega (arith, m, split_small s v h.ready, round_fits)
 
-operation_small : (x : Operation) (v : View) → v.settings.levels ≤ 6 → OperationIsReady x v → left_of x v < job_most
-operation_small (Insert job) v deep h = next_small job.insert job.split v deep h.next
-operation_small (Delete d) v deep h = omega (arith, delete_small d v, long_fits)
+operation_small : (x : Operation) (b : Bool) (v : View) → v.settings.levels ≤ 6 → OperationIsReady x b v → left_of x v < job_most
+operation_small (Insert job) b v deep h = omega (arith, next_small job.insert job.split v deep h.next)
+operation_small (Delete d) b v deep h = omega (arith, delete_small d v, long_fits)
+operation_small (Range range number) b v deep h = omega (arith, few_sections range v h.0)
 
 pub job_small : (job : Job) (v : View) → v.settings.levels ≤ 6 → Ready job v → left job v < job_most
-job_small job v deep h = operation_small job.operation v deep h.operation
+job_small job v deep h = operation_small job.operation job.begun v deep h.operation
 
 task_small : (task : Option Task) (v : View) → caring.TaskIsReady task v → caring.left_of task v < split_most + 1
 task_small None v h = omega arith

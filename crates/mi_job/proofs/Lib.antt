@@ -3,3 +3,4 @@ pub mod EndLemmas
 pub mod InsertLemmas
 pub mod JobLemmas
 pub mod OthersLemmas
+pub mod RangeLemmas

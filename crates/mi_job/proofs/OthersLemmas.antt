@@ -5,6 +5,10 @@ use Rattle.mi_world.specs.View.{View, Others}
 use Rattle.mi_blink.specs.declared.turns.Why.{Why as Reason}
 use Rattle.mi_blink.specs.declared.turns.Why.TheVariants.{NoPages, Memory}
 use Rattle.mi_blink.proofs.PostLemmas.{owes_only_stays}
+use Rattle.mi_range.specs.declared.range.RangeState.{RangeState}
+use Rattle.mi_range.specs.declared.range.RangeState.TheVariants as ranged
+use Rattle.mi_range.specs.Querying as ranging
+use Rattle.mi_range.proofs.OthersLemmas.{ready_stays}
 use Rattle.mi_split.specs.declared.split.SplitOp.{SplitOp}
 use Rattle.mi_split.specs.declared.split.SplitState.{SplitState}
 use Rattle.mi_split.specs.declared.split.SplitState.TheVariants as at
@@ -21,7 +25,7 @@ use Rattle.mi_job.specs.declared.care.Task.{Task}
 use Rattle.mi_job.specs.declared.care.Task.TheVariants.{Sweep, Split}
 use Rattle.mi_job.specs.declared.job.Job.{Job}
 use Rattle.mi_job.specs.declared.job.Operation.{Operation}
-use Rattle.mi_job.specs.declared.job.Operation.TheVariants.{Insert, Delete}
+use Rattle.mi_job.specs.declared.job.Operation.TheVariants.{Insert, Delete, Range}
 use Rattle.mi_job.specs.Caring as caring
 use Rattle.mi_job.specs.Inserts as inserts
 use Rattle.mi_job.specs.Jobs.{EarlyIs, OperationIsReady, Ready, Since, pending, since_in, since_of}
@@ -39,23 +43,40 @@ module _ (v w : View) (o : Others v w) where
     begun = h.begun;
   }
 
-  operation_stays : (x : Operation) → OperationIsReady x v → OperationIsReady x w
-  operation_stays (Insert job) h = record { next = next_stays job.insert job.split h.next; pin = o.same.work.apart.pin ∙ h.pin }
-  operation_stays (Delete op) h = (updates.delete_stays op v w o h.0, o.same.work.apart.pin ∙ h.1)
+  operation_stays : (x : Operation) (b : Bool) → OperationIsReady x b v → OperationIsReady x b w
+  operation_stays (Insert job) b h = record { next = next_stays job.insert job.split h.next; pin = o.same.work.apart.pin ∙ h.pin }
+  operation_stays (Delete op) b h = (updates.delete_stays op v w o h.0, o.same.work.apart.pin ∙ h.1)
+  operation_stays (Range range number) b h = (
+    ready_stays range v w o h.0,
+    h.1,
+    record {
+      shard = o.same.work.update.shard ∙ h.2.shard;
+      leaf = o.same.work.leaf.leaf ∙ h.2.leaf;
+      sweep = o.same.work.apart.sweep.sweep ∙ h.2.sweep;
+      unsplit = o.same.work.apart.split.splitting ∙ h.2.unsplit;
+    },
+  )
 
   pub job_stays : (job : Job) → Ready job v → Ready job w
-  job_stays job h = record { operation = operation_stays job.operation h.operation }
+  job_stays job h = record { operation = operation_stays job.operation job.begun h.operation }
 
   insert_rises : (i : InsertOp) (s : Option SplitOp) → inserts.NextIsReady i s v → inserting.since_in i v ≤ inserting.since_in i w
   insert_rises i None h = updates.insert_since_rises i v w o h
   insert_rises i (Some s) h = rw h.waits.state_is (seen_more v w o.later)
 
-  rises : (x : Operation) → OperationIsReady x v → since_of x v ≤ since_of x w
-  rises (Insert job) h = insert_rises job.insert job.split h.next
-  rises (Delete op) h = updates.delete_since_rises op v w o h.0
+  range_rises : (s : RangeState) → ranging.since_at s v ≤ ranging.since_at s w
+  range_rises ranged.Begin = seen_more v w o.later
+  range_rises (ranged.Walking place cells root at walk) = omega arith
+  range_rises (ranged.Ending cells at) = omega arith
+  range_rises ranged.Over = seen_more v w o.later
+
+  rises : (x : Operation) (b : Bool) → OperationIsReady x b v → since_of x v ≤ since_of x w
+  rises (Insert job) b h = insert_rises job.insert job.split h.next
+  rises (Delete op) b h = updates.delete_since_rises op v w o h.0
+  rises (Range range number) b h = range_rises range.state
 
   pub since_rises : (job : Job) → Ready job v → since_in job v ≤ since_in job w
-  since_rises job h = rises job.operation h.operation
+  since_rises job h = rises job.operation job.begun h.operation
 
   early_at : (s : InsertState) (early : Bool) → inserts.EarlyAt s early v → inserts.EarlyAt s early w
   early_at Begin early h = same_early ∙ h
@@ -95,6 +116,7 @@ module _ (v w : View) (o : Others v w) where
   early_job : (x : Operation) (early : Bool) → EarlyIs x early v → EarlyIs x early w
   early_job (Insert job) early h = early_insert job.insert job.split early h
   early_job (Delete op) early h = same_early ∙ h
+  early_job (Range range number) early h = same_early ∙ h
 
   pub since_stays : (job : Job) (own : List Entered) (from : ℕ) (owed : ℕ → Bool) (early : Bool) → Ready job v → Since own from owed early job v → Since own from owed early job w
   since_stays job own from owed early h s = record {

@@ -1,8 +1,9 @@
 -- One operation of a script between its sections, and what a section of it does, whichever operation it is.
-use Rattle.std.specs.Prelude.{◌≡◌, ◌≤◌, ◌*◌, ◌++◌, ◌∷◌, [], ◌⊎◌, ℕ, ℤ, List, Option, Some, None, MatchOption, Bool, true, false, IsTrue, length}
+use Rattle.std.specs.Prelude.{◌≡◌, ◌≤◌, ◌+◌, ◌*◌, ◌^◌, ◌++◌, ◌∷◌, [], ◌⊎◌, ℕ, ℤ, List, Option, Some, None, MatchOption, Bool, true, false, IsTrue, cond, length}
 use Rattle.mi_base.specs.declared.records.Op.{Op}
 use Rattle.mi_base.specs.declared.records.Op.TheVariants as op
 use Rattle.mi_base.specs.declared.records.Reply.{Reply}
+use Rattle.mi_base.specs.declared.records.Reply.TheVariants as reply
 use Rattle.mi_base.specs.declared.records.Update.TheVariants as update
 use Rattle.mi_base.specs.History.{Entered, updates_of}
 use Rattle.mi_base.specs.Permutations.{distances}
@@ -12,8 +13,11 @@ use Rattle.mi_legal.specs.Want.{is_memory}
 use Rattle.mi_world.specs.View.{View, Later, SameActors}
 use Rattle.mi_blink.specs.declared.turns.Turn.{Turn}
 use Rattle.mi_blink.specs.declared.turns.Turn.TheVariants as turn
-use Rattle.mi_blink.specs.Descents.{Falls}
+use Rattle.mi_blink.specs.Descents.{Falls, longest}
 use Rattle.mi_blink.specs.Posting.{OwesOnly}
+use Rattle.mi_range.specs.declared.range.RangeState.{RangeState}
+use Rattle.mi_range.specs.declared.range.RangeState.TheVariants as ranged
+use Rattle.mi_range.specs.Querying as ranging
 use Rattle.mi_split.specs.Splitting.{split_most}
 use Rattle.mi_update.specs.Deleting as deleting
 use Rattle.mi_update.specs.Endings.{IsRight}
@@ -21,7 +25,7 @@ use Rattle.mi_update.specs.Inserting as inserting
 use Rattle.mi_update.specs.Stepping.{number_told}
 use Rattle.mi_job.specs.declared.job.Job.{Job}
 use Rattle.mi_job.specs.declared.job.Operation.{Operation}
-use Rattle.mi_job.specs.declared.job.Operation.TheVariants.{Insert, Delete}
+use Rattle.mi_job.specs.declared.job.Operation.TheVariants.{Insert, Delete, Range}
 use Rattle.mi_job.specs.declared.turns.JobTurn.{JobTurn}
 use Rattle.mi_job.specs.declared.turns.JobTurn.TheVariants.{More, Held, Done}
 use Rattle.mi_job.specs.Claims.{ClaimsNone, IsHeld}
@@ -34,6 +38,11 @@ is_query (op.Delete id) = false
 is_query (op.Range radius query) = true
 is_query (op.Nearest count query) = true
 
+-- the operation asks for the nearest objects
+abbrev pub is_nearest : Op → Bool
+is_nearest (op.Nearest count query) = true
+is_nearest o = false
+
 -- how many distances are measured when the operation is made: those of an insert's vector to the pivots
 abbrev pub measured_for : Op → List (List ℤ) → ℕ
 measured_for (op.Insert id vector) pivots = length pivots
@@ -43,10 +52,12 @@ measured_for o pivots = 0
 abbrev pub asked_by : Operation → Op
 asked_by (Insert job) = inserting.asked job.insert
 asked_by (Delete delete) = deleting.asked delete
+asked_by (Range range number) = op.Range range.radius range.query
 
 abbrev pub numbered : Operation → ℕ
 numbered (Insert job) = job.insert.op
 numbered (Delete delete) = delete.op
+numbered (Range range number) = number
 
 abbrev pub asked : Job → Op
 asked job = asked_by job.operation
@@ -58,24 +69,39 @@ op_number job = numbered job.operation
 abbrev pub OperationIsBegun : Operation → Op → ℕ → Space → Type 0
 OperationIsBegun (Insert job) (op.Insert id vector) number space = inserting.Begun job.insert id vector (distances space vector) number × (job.split ≡ None)
 OperationIsBegun (Delete delete) (op.Delete id) number space = deleting.Begun delete id number
+OperationIsBegun (Range range k) (op.Range radius query) number space = ranging.Begun range radius query × (k ≡ number)
 OperationIsBegun operation o number space = ⊥
 
 pub record Begun (job : Job) (o : Op) (number : ℕ) (space : Space) : Type 0 where
   pub operation : OperationIsBegun job.operation o number space
   pub not_yet : job.begun ≡ false
 
--- what an operation needs of its actor between two sections
-abbrev pub OperationIsReady : Operation → View → Type 0
-OperationIsReady (Insert job) v = inserts.Ready job v
-OperationIsReady (Delete delete) v = deleting.Ready delete v × (v.pin ≡ None)
+-- a query was begun: its pin was made, or was refused
+abbrev pub is_begun : RangeState → Bool
+is_begun ranged.Begin = false
+is_begun state = true
+
+-- the actor of a query claims nothing, and has no split under way
+pub record ClaimsAtMostPin (v : View) : Type 0 where
+  pub shard : v.shard ≡ None
+  pub leaf : v.leaf ≡ None
+  pub sweep : v.sweep ≡ None
+  pub unsplit : v.splitting ≡ false
+
+-- What an operation needs of its actor between two sections; a query's first section is its pin, which is never held.
+abbrev pub OperationIsReady : Operation → Bool → View → Type 0
+OperationIsReady (Insert job) begun v = inserts.Ready job v
+OperationIsReady (Delete delete) begun v = deleting.Ready delete v × (v.pin ≡ None)
+OperationIsReady (Range range number) begun v = ranging.Ready range v × (begun ≡ is_begun range.state) × ClaimsAtMostPin v
 
 pub record Ready (job : Job) (v : View) : Type 0 where
-  pub operation : OperationIsReady job.operation v
+  pub operation : OperationIsReady job.operation job.begun v
 
 -- the number of its update, once that is entered
 abbrev pub number_of : Operation → Option ℕ
 number_of (Insert job) = inserting.number_in job.insert
 number_of (Delete delete) = deleting.number_in delete
+number_of (Range range number) = None
 
 abbrev pub number_in : Job → Option ℕ
 number_in job = number_of job.operation
@@ -84,6 +110,7 @@ number_in job = number_of job.operation
 abbrev pub since_of : Operation → View → ℕ
 since_of (Insert job) v = inserting.since_in job.insert v
 since_of (Delete delete) v = deleting.since_in delete v
+since_of (Range range number) v = ranging.since_at range.state v
 
 abbrev pub since_in : Job → View → ℕ
 since_in job v = since_of job.operation v
@@ -91,24 +118,25 @@ since_in job v = since_of job.operation v
 -- the routes that are still to be posted
 abbrev pub pending : Operation → ℕ → Bool
 pending (Insert job) p = inserts.pending job.insert job.split p
-pending (Delete delete) p = false
+pending operation p = false
 
 -- the flag of copies taken back early stands as it stood, but where memory was wanting
 abbrev pub EarlyIs : Operation → Bool → View → Type 0
 EarlyIs (Insert job) early v = inserts.EarlyIs job.insert job.split early v
-EarlyIs (Delete delete) early v = v.early ≡ early
+EarlyIs operation early v = v.early ≡ early
 
 -- how many sections are left while the budget stays, at most
 abbrev pub left_of : Operation → View → ℕ
 left_of (Insert job) v = inserts.left job v
 left_of (Delete delete) v = deleting.left delete v
+left_of (Range range number) v = ranging.left range v
 
 abbrev pub left : Job → View → ℕ
 left job v = left_of job.operation v
 
 -- more than any of these
 abbrev pub job_most : ℕ
-job_most = 7 * inserting.round split_most
+job_most = 7 * inserting.round split_most + (2 ^ 32 * (longest + 1) + 4)
 
 -- the update that an operation enters into the log
 abbrev pub entry_of : View → ℕ → Op → List Entered
@@ -136,7 +164,11 @@ pub record EntersNone (old : Job) (v : View) (new : Job) (w : View) : Type 0 whe
   pub number : number_in new ≡ number_in old
   pub own : w.own ≡ v.own
 
--- the answer of a delete, whose leaf is never to be split
+abbrev pub IsNotCrowded : Turn → Type 0
+IsNotCrowded (turn.Crowded leaf) = ⊥
+IsNotCrowded answer = Unit {0}
+
+-- the answer of an operation that splits no leaf
 abbrev pub Tells : Turn → JobTurn → Type 0
 Tells turn.More answer = answer ≡ More
 Tells turn.Held answer = answer ≡ Held
@@ -147,13 +179,35 @@ Tells (turn.Done reply) answer = answer ≡ Done reply
 abbrev pub Makes : Operation → View → JobTurn → Operation → View → Type 0
 Makes (Insert old) v answer (Insert new) w = inserts.Turned old v answer new w
 Makes (Delete old) v answer (Delete new) w = (told : Turn) × deleting.Turned old v told new w × Tells told answer
+Makes (Range old k) v answer (Range new n) w = (told : Turn) × ranging.Turned old v told new w × Tells told answer × (n ≡ k)
 Makes old v answer new w = ⊥
+
+-- how many distances a query has computed
+abbrev pub computed : Operation → ℕ
+computed (Range range number) = ranging.computed range.work
+computed operation = 0
+
+-- each distance is one step
+abbrev pub Ticks : Job → ℕ → JobTurn → Job → ℕ → Type 0
+Ticks old k More new n = n + computed old.operation ≡ k + computed new.operation
+Ticks old k answer new n = n ≡ k
+
+-- the distances that the answer to a range query tells are those that were computed
+abbrev pub TellsComputed : Operation → Reply → Type 0
+TellsComputed operation (reply.Range p rows cells distances) = distances ≡ computed operation
+TellsComputed operation y = Unit {0}
+
+-- how many events the position of a query's reply has: those of the log that its first section leaves, which is its pin
+abbrev pub pinned_in : Job → View → View → ℕ
+pinned_in old v w = cond old.begun (since_in old v) (length w.seen)
 
 -- The reply is right in the log seen, its position has no fewer events than it was to have, it tells the number of the update, which is what
 -- it accepts, and the actor claims nothing.
 pub record Finishes (old : Job) (v : View) (y : Reply) (new : Job) (w : View) : Type 0 where
   pub right : IsRight (asked old) (op_number old) w y
   pub not_before : MatchOption (reach w.seen y) (Unit {0}) (λ n. since_in old v ≤ n)
+  pub pinned : is_query (asked old) ≡ true → MatchOption (reach w.seen y) (Unit {0}) (λ n. n ≡ pinned_in old v w)
+  pub computed_are : TellsComputed old.operation y
   pub number_is : number_told y ≡ number_in new
   pub accepted_is : accepted_update w.actor (op_number old) (asked old) y ≡ added new w
   pub none_pending : (p : ℕ) → pending new.operation p ≡ false
@@ -162,7 +216,8 @@ pub record Finishes (old : Job) (v : View) (y : Reply) (new : Job) (w : View) : 
 
 -- what each answer says
 abbrev pub Outcome : Job → View → JobTurn → Job → View → Type 0
-Outcome old v More new w = Ready new w × (IsTrue w.tells_full → Falls v (left old v) w (left new w))
+Outcome old v More new w =
+    Ready new w × (is_query (asked old) ≡ true → since_in new w ≡ pinned_in old v w) × (IsTrue w.tells_full → Falls v (left old v) w (left new w))
 Outcome old v Held new w = Ready new w × (new.operation ≡ old.operation) × IsHeld (asked old) w
 Outcome old v (Done y) new w = Finishes old v y new w
 
@@ -188,6 +243,10 @@ pub record Since (own : List Entered) (from : ℕ) (owed : ℕ → Bool) (early 
   pub reaches : from ≤ since_in job v
   pub owes : OwesOnly owed (pending job.operation) v
   pub early_is : EarlyIs job.operation early v
+
+-- as many steps were taken since as distances were computed
+abbrev pub Ticked : ℕ → Job → ℕ → Type 0
+Ticked first job k = k ≡ first + computed job.operation
 
 -- An operation from its first section to its last: the reply is right in the log seen, and its position isn't before so many events; the
 -- actor's own updates are those of the beginning and what the reply accepts; it claims nothing, and has no pin and no split under way; it owes

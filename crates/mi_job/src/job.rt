@@ -1,9 +1,9 @@
 //! One operation of a script with its help.
-ghost use Rattle.std.specs.Prelude.{◌≡◌, ◌+◌, false};
+ghost use Rattle.std.specs.Prelude.{◌≡◌, ◌+◌, false, IsTrue};
 ghost use Rattle.std.specs.List.{AllByRecursion};
-ghost use Rattle.std.specs.Prelude.{IsTrue};
+ghost use Rattle.mi_base.specs.Configuration.{metric_space};
 ghost use Rattle.mi_base.specs.Scripts.{IsOpOver};
-ghost use Rattle.mi_job.specs.Jobs.{Begun, Ready, Turned, is_query, measured_for};
+ghost use Rattle.mi_job.specs.Jobs.{Begun, IsNotCrowded, Ready, Tells, Ticks, Turned, is_nearest, measured_for};
 
 use crate::JobTurn;
 use crate::inserts::InsertJob;
@@ -11,6 +11,7 @@ use mi_base::{Op, Steps};
 use mi_blink::Turn;
 use mi_metric::Metric;
 use mi_perm::Pivots;
+use mi_range::RangeOp;
 use mi_update::{DeleteOp, InsertOp};
 use mi_world::World;
 use std::alloc::Global;
@@ -21,9 +22,10 @@ use std::sync::ledger::Ledger;
 enum Operation {
     Insert { insert: InsertJob },
     Delete { delete: DeleteOp },
+    Range { range: RangeOp, number: u32 },
 }
 
-/// One operation of a script. It makes the splits that it needs by itself.
+/// One operation of a script. An insert makes the splits that it needs by itself.
 #[derive(Drop)]
 pub struct Job {
     operation: Operation,
@@ -40,7 +42,7 @@ impl Job {
         pivots: &Pivots,
         steps: &mut Steps<L>,
     ) -> Job
-        requires update { is_query op.now ≡ false }
+        requires served { is_nearest op.now ≡ false }
         requires fits { IsOpOver (M.space metric.now) op.now }
         requires pivots { AllByRecursion (λ p. IsTrue ((M.space metric.now).fits p)) pivots.now }
         ensures begun { Begun result op.now number (record { metric = M.space metric.now; pivots = pivots.now }) }
@@ -56,6 +58,10 @@ impl Job {
             Op::Delete { id } => Operation::Delete {
                 delete: DeleteOp::new(*id, number),
             },
+            Op::Range { radius, query } => Operation::Range {
+                range: RangeOp::new(*radius, query.copy()),
+                number,
+            },
             _ => unreachable!(),
         };
         Job {
@@ -64,21 +70,42 @@ impl Job {
         }
     }
 
-    /// Makes one section.
-    pub fn step<W: World>(&mut self, alloc: Global, world: &mut W) -> JobTurn
+    /// Makes one section. Each distance that a query computes counts as one step.
+    pub fn step<W: World, M: Metric, L: Ledger>(
+        &mut self,
+        alloc: Global,
+        world: &mut W,
+        metric: &M,
+        pivots: &Pivots,
+        steps: &mut Steps<L>,
+    ) -> JobTurn
+        requires space { M.space metric.now ≡ metric_space (W.view world.old).settings }
+        requires pivots { pivots.now ≡ (W.view world.old).settings.pivots }
         requires ready { Ready self.old (W.view world.old) }
         ensures turned { Turned self.old (W.view world.old) result self.new (W.view world.new) }
+        ensures ticks { Ticks self.old steps.old result self.new steps.new }
         ensures section { W.section world.old world.new }
     {
         self.begun = true;
         match &mut self.operation {
             Operation::Insert { insert } => insert.step(alloc, world),
-            Operation::Delete { delete } => match delete.step(world) {
-                Turn::More => JobTurn::More,
-                Turn::Held => JobTurn::Held,
-                Turn::Crowded { .. } => unreachable!(),
-                Turn::Done { reply } => JobTurn::Done { reply },
-            },
+            Operation::Delete { delete } => told(delete.step(world)),
+            Operation::Range { range, .. } => {
+                told(range.step(alloc, world, metric, pivots, steps))
+            }
         }
+    }
+}
+
+/// The answer of an operation that splits no leaf.
+fn told(turn: Turn) -> JobTurn
+    requires { IsNotCrowded turn }
+    ensures { Tells turn result }
+{
+    match turn {
+        Turn::More => JobTurn::More,
+        Turn::Held => JobTurn::Held,
+        Turn::Crowded { .. } => unreachable!(),
+        Turn::Done { reply } => JobTurn::Done { reply },
     }
 }

@@ -5,6 +5,8 @@ ghost use Rattle.mi_base.specs.declared.records.Reply.{Reply as AReply};
 ghost use Rattle.mi_base.specs.Configuration.{metric_space, space_of};
 ghost use Rattle.mi_base.specs.History.{Entered};
 ghost use Rattle.mi_base.specs.Scripts.{IsOpOver};
+ghost use Rattle.mi_base.specs.Space.{Space};
+ghost use Rattle.mi_legal.specs.Work.{Works};
 ghost use Rattle.mi_world.specs.View.{Others, View};
 ghost use Rattle.mi_split.specs.Splitting.{split_most};
 ghost use Rattle.mi_job.specs.declared.care.Care.{Care as ACare};
@@ -12,10 +14,10 @@ ghost use Rattle.mi_job.specs.declared.care.CareTurn.{CareTurn as ACareTurn};
 ghost use Rattle.mi_job.specs.declared.care.CareTurn.TheVariants as told;
 ghost use Rattle.mi_job.specs.declared.job.Job.{Job as AJob};
 ghost use Rattle.mi_job.specs.declared.turns.JobTurn.{JobTurn as ATurn};
-ghost use Rattle.mi_job.specs.declared.turns.JobTurn.TheVariants.{Done};
+ghost use Rattle.mi_job.specs.declared.turns.JobTurn.TheVariants.{Done, Held, More};
 ghost use Rattle.mi_job.specs.Caring as caring;
 ghost use Rattle.mi_job.specs.Claims.{ClaimsNone};
-ghost use Rattle.mi_job.specs.Jobs.{Begun, Ended, Ready, Since, Turned, asked, job_most, left, op_number, since_in};
+ghost use Rattle.mi_job.specs.Jobs.{Begun, Ended, Ready, Since, Ticked, Ticks, Turned, asked, job_most, left, op_number, since_in};
 
 /// A job is ready where its actor claims nothing, if its operation fits and was measured for these settings.
 pub fn jobs_begin()
@@ -24,12 +26,15 @@ pub fn jobs_begin()
         → Begun job o number (space_of v.settings) → IsOpOver (metric_space v.settings) o → ClaimsNone v → Ready job v }
     ensures since { (job : AJob) (o : AnOp) (number : ℕ) (v : View)
         → Begun job o number (space_of v.settings) → Since v.own (length v.seen) v.owes v.early job v }
+    ensures ticked { (job : AJob) (o : AnOp) (number : ℕ) (space : Space) (k : ℕ) → Begun job o number space → Ticked k job k }
 {}
 
-/// Each section of a job keeps what is so since its first.
+/// Each section of a job keeps what is so since its first, and as many steps are taken as distances are computed.
 pub fn jobs_go_on()
-    ensures { (own : List Entered) (from : ℕ) (owed : ℕ → Bool) (early : Bool) (old new : AJob) (v w : View) (answer : ATurn)
+    ensures since { (own : List Entered) (from : ℕ) (owed : ℕ → Bool) (early : Bool) (old new : AJob) (v w : View) (answer : ATurn)
         → Turned old v answer new w → Since own from owed early old v → Since own from owed early new w }
+    ensures more { (first : ℕ) (old new : AJob) (k n : ℕ) → Ticks old k More new n → Ticked first old k → Ticked first new n }
+    ensures held { (first : ℕ) (old new : AJob) (v w : View) (k n : ℕ) → Turned old v Held new w → Ticks old k Held new n → Ticked first old k → Ticked first new n }
 {}
 
 /// While others act a job stays ready, and so does what is so since its first section.
@@ -40,10 +45,11 @@ pub fn jobs_wait()
         → Ready job v → Since own from owed early job v → Since own from owed early job w }
 {}
 
-/// What is so at a job's end.
+/// What is so at a job's end, and how many steps a range query has taken.
 pub fn jobs_end()
-    ensures { (own : List Entered) (from : ℕ) (owed : ℕ → Bool) (early : Bool) (old new : AJob) (v w : View) (y : AReply)
+    ensures ended { (own : List Entered) (from : ℕ) (owed : ℕ → Bool) (early : Bool) (old new : AJob) (v w : View) (y : AReply)
         → Turned old v (Done y) new w → Since own from owed early old v → Ended (asked old) (op_number old) own from owed early w y }
+    ensures works { (first : ℕ) (old new : AJob) (v w : View) (k n : ℕ) (y : AReply) → Turned old v (Done y) new w → Ticks old k (Done y) new n → Ticked first old k → Works first y n }
 {}
 
 /// A job has so many sections at most while the budget stays.
