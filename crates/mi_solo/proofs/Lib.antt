@@ -15,6 +15,7 @@ pub mod CommitLemmas
 pub mod CommitEvents
 pub mod EnterEvents
 pub mod CanLemmas
+pub mod HandLemmas
 pub mod GatheredLemmas
 pub mod WorkEvents
 pub mod RouteEvents

@@ -16,10 +16,8 @@ pub use boards::{
     shards_follow, splits_end, splits_may_end, work_is_given,
 };
 pub use pages::{
-    deletes_follow, deletes_may_be, halves_follow, inserts_follow, inserts_may_be,
-    pages_are_shown, posts_follow, roots_follow, visits_follow,
+    deletes_follow, deletes_may_be, halves_follow, inserts_follow, inserts_may_be, pages_are_shown,
+    posts_follow, roots_follow, visits_follow,
 };
-pub use splits::{
-    copies_follow, gathers_follow, sweeps_follow, trims_follow, uncopies_follow,
-};
-pub use views::{boards_are_seen, views_go_on};
+pub use splits::{copies_follow, gathers_follow, sweeps_follow, trims_follow, uncopies_follow};
+pub use views::{boards_are_seen, hands_are_shown, views_go_on};
