@@ -12,6 +12,9 @@ use std::test::Fail;
 const TEXT: &str =
     "session,0\nstored,1\nremoved,2\npresent,3,1\nabsent,3,1\nfull,8\nnopages,4\nmemory\nsession,1\nrange,2,0,2,1,5\n0,7\n12,1099511627775\nrange,0,0,0,0,3\nnearest,2,1,1,1\n3,9\nhistory,2,1\ninsert,0,1,7,0,-1000000\ndelete,1,2,7\nsplit,0.31\ncells,3\n-,0\n0.31.5,1\n4,20\nentries,18446744073709551615\npages,4,200000\n";
 
+const FIGURES: &str =
+    "seed,7\nupdates,2\nsplits,1\ncells,3\nentries,18446744073709551615\npages,4,200000\nqueries,3\nrows,3\nopened,2\ndistances,8\n";
+
 fn position(updates: u32, splits: u32) -> Position {
     Position { updates, splits }
 }
@@ -121,5 +124,14 @@ fn each_kind_of_line_goes_out_in_pieces_of_any_size(rt: HostRuntime) -> Result<(
         assert_eq!(rt; render(&outcome, &mut out), Ok(()), "{most} bytes a call");
         assert_eq!(rt; out.bytes(), TEXT.as_bytes(), "{most} bytes a call");
     }
+    Ok(())
+}
+
+#[test]
+fn figures_are_summed_over_all_replies(rt: HostRuntime) -> Result<(), Fail> {
+    let outcome = outcome(rt.alloc())?;
+    let mut out = MemorySink::new(rt.alloc(), 7, &[], 4096)?;
+    assert_eq!(rt; summary(7, &outcome, &mut out), Ok(()));
+    assert_eq!(rt; out.bytes(), FIGURES.as_bytes());
     Ok(())
 }

@@ -215,7 +215,7 @@ fn send_event<S: Sink>(event: &LogEvent, out: &mut S) -> Result<(), SinkFailed>
     }
 }
 
-fn count_updates(log: &Log) -> usize
+pub fn count_updates(log: &Log) -> usize
     ensures { result ≡ length (updates_of log.now) }
 {
     let mut updates = 0;
@@ -271,7 +271,7 @@ fn send_cells<S: Sink>(cells: &Leaves, out: &mut S) -> Result<(), SinkFailed>
     send_leaves(cells, out)
 }
 
-fn send_totals<S: Sink>(
+pub fn send_totals<S: Sink>(
     entries: u64,
     allotted: u32,
     limit: u32,

@@ -1,0 +1,10 @@
+//! Large workloads, made from a number.
+#![tactic(auto)]
+
+mod draws;
+mod workload;
+
+pub use workload::{Workload, make};
+
+#[cfg(test)]
+mod tests;
