@@ -35,8 +35,8 @@ use Rattle.mi_core.proofs.PageLemmas.{within}
 use Rattle.mi_world.specs.declared.answers.Put.{Put}
 use Rattle.mi_world.specs.declared.answers.Put.TheVariants as put
 use Rattle.mi_world.specs.Pages.{HasTaken}
-use Rattle.mi_world.specs.Splits.{CopiesIn, CopyAnswer, Uncopies, UncopyAnswer, last_copy, next_copy}
-use Rattle.mi_world.specs.View.{View}
+use Rattle.mi_world.specs.Splits.{CopiesIn, CopyAnswer, SameGathered, Uncopies, UncopyAnswer, last_copy, next_copy}
+use Rattle.mi_world.specs.View.{Later, SameFlags, View}
 use Rattle.mi_solo.specs.Onward.{Makes, Onward}
 use Rattle.mi_solo.specs.Seeking.{EndsAfter, PointsDown, PointsRight}
 use Rattle.mi_solo.specs.Viewing.{copy_keys, gathered_to, is_whole, page_seen, shown_to}
@@ -46,13 +46,59 @@ use Rattle.mi_solo.proofs.EnterEvents.{put_count}
 use Rattle.mi_solo.proofs.LaterLemmas.{onward}
 use Rattle.mi_solo.proofs.MarkLemmas.{fewer, index_map}
 use Rattle.mi_solo.proofs.OwnLemmas.{later_own, made}
-use Rattle.mi_solo.proofs.QuietLemmas.{same_board, same_tries}
+use Rattle.mi_solo.proofs.QuietLemmas.{board_by, leaf_by, tries_by, update_by}
+
+-- what of a split stays, whatever number of copies is made
+module _ (s : State) (pages : List (Option Node)) (actors : List Actor) (a : ℕ) (r : Actor) (page : ℕ) (o : Option SplitWork) (undone early : Bool) where
+  abbrev t : State
+  t = record { board = s.board; shards = s.shards; pages = pages; actors = actors }
+
+  abbrev q : Actor
+  q = record r { page = page; split = o; undone = undone; early = early }
+
+  abbrev w : View
+  w = shown_to (record { board = s.board; shards = s.shards; pages = pages; actors = actors }) a (record r { page = page; split = o; undone = undone; early = early })
+
+  module _ (later : Later (shown_to s a r) w) (same : SameGathered (shown_to s a r) w) where
+    copies_by : SameFlags (shown_to s a r) w → (result : Put) → CopyAnswer (shown_to s a r) w page result → CopiesIn (shown_to s a r) w page result
+    copies_by flags result answer = record {
+      later = later;
+      update = update_by s t a r q refl refl refl refl;
+      leaf = leaf_by s t a r q refl refl;
+      sweep = record { sweep = refl; swept = refl };
+      gathered = same; flags = flags;
+      actors = record { absorbed = refl; forked = refl };
+      pin = refl; floor = refl; fresh = refl; owes = refl;
+      board = board_by s t a r q refl refl;
+      tries = tries_by s t a r q refl refl;
+      page_is = refl; answer = answer;
+    }
+
+    uncopies_by : (result : Put) → UncopyAnswer (shown_to s a r) w page result → Uncopies (shown_to s a r) w page result
+    uncopies_by result answer = record {
+      later = later;
+      update = update_by s t a r q refl refl refl refl;
+      leaf = leaf_by s t a r q refl refl;
+      sweep = record { sweep = refl; swept = refl };
+      gathered = same;
+      actors = record { absorbed = refl; forked = refl };
+      pin = refl; floor = refl; fresh = refl; owes = refl;
+      board = board_by s t a r q refl refl;
+      tries = tries_by s t a r q refl refl;
+      page_is = refl; answer = answer;
+    }
 
 -- a split's copies are other in number alone
-counted_to : (c : Configuration) (n : ℕ) (o : Option SplitWork)
-    → (is_some (copied_to n o) ≡ is_some o) × (gathered_to (copied_to n o) ≡ gathered_to o) × (is_whole c (copied_to n o) ≡ is_whole c o) × (copy_keys c (copied_to n o) ≡ copy_keys c o)
-counted_to c n None = (refl, refl, refl, refl)
-counted_to c n (Some w) = (refl, refl, refl, refl)
+counted_to : (s : State) (pages : List (Option Node)) (actors : List Actor) (a : ℕ) (r : Actor) (page n : ℕ) (undone early : Bool)
+    → SameGathered (shown_to s a r) (shown_to (record { board = s.board; shards = s.shards; pages = pages; actors = actors }) a (record r { page = page; split = copied_to n r.split; undone = undone; early = early }))
+counted_to s pages actors a r page n undone early =
+    let f = parts r.split in
+    record { splitting = f.0; mark = f.1; whole = f.2; copies = f.3 }
+  where
+    parts : (o : Option SplitWork)
+        → (is_some (copied_to n o) ≡ is_some o) × (gathered_to (copied_to n o) ≡ gathered_to o) × (is_whole s.board.settings (copied_to n o) ≡ is_whole s.board.settings o) × (copy_keys s.board.settings (copied_to n o) ≡ copy_keys s.board.settings o)
+    parts None = (refl, refl, refl, refl)
+    parts (Some w) = (refl, refl, refl, refl)
 
 -- the copy at a place is told by the view
 module _ (s : State) (a : ℕ) (r : Actor) (w : SplitWork) (split : r.split ≡ Some w) where
@@ -95,33 +141,12 @@ module _ (s : State) (k : Kept s) (a : ℕ) (r : Actor) (there : slice_get s.act
     high_is = ap (λ o. (node_or_fresh o).high) here
 
     copies_not : (result : Put) → CopyAnswer v wv page result → CopiesIn v wv page result
-    copies_not result answer = record {
-      later = later_own s k a r there going (visit page) can qv (set_there s.actors a qv r there);
-      update = record { own = refl; shard = refl; records = refl; reserved = refl };
-      leaf = record { leaf = refl; wanted = refl };
-      sweep = record { sweep = refl; swept = refl };
-      gathered = record { splitting = refl; mark = refl; whole = refl; copies = refl };
-      flags = record { undone = refl; early = refl };
-      actors = record { absorbed = refl; forked = refl };
-      pin = refl; floor = refl; fresh = refl; owes = refl;
-      board = same_board s s.pages (set s.actors a qv) a r r.seen page r.fresh r.owed;
-      tries = same_tries s s.pages (set s.actors a qv) a r r.seen page r.fresh r.owed;
-      page_is = refl; answer = answer;
-    }
+    copies_not result answer = copies_by s s.pages (set s.actors a qv) a r page r.split r.undone r.early (later_own s k a r there going (visit page) can qv (set_there s.actors a qv r there))
+        (record { splitting = refl; mark = refl; whole = refl; copies = refl }) (record { undone = refl; early = refl }) result answer
 
     uncopies_not : (result : Put) → UncopyAnswer v wv page result → Uncopies v wv page result
-    uncopies_not result answer = record {
-      later = later_own s k a r there going (visit page) can qv (set_there s.actors a qv r there);
-      update = record { own = refl; shard = refl; records = refl; reserved = refl };
-      leaf = record { leaf = refl; wanted = refl };
-      sweep = record { sweep = refl; swept = refl };
-      gathered = record { splitting = refl; mark = refl; whole = refl; copies = refl };
-      actors = record { absorbed = refl; forked = refl };
-      pin = refl; floor = refl; fresh = refl; owes = refl;
-      board = same_board s s.pages (set s.actors a qv) a r r.seen page r.fresh r.owed;
-      tries = same_tries s s.pages (set s.actors a qv) a r r.seen page r.fresh r.owed;
-      page_is = refl; answer = answer;
-    }
+    uncopies_not result answer = uncopies_by s s.pages (set s.actors a qv) a r page r.split r.undone r.early (later_own s k a r there going (visit page) can qv (set_there s.actors a qv r there))
+        (record { splitting = refl; mark = refl; whole = refl; copies = refl }) result answer
 
     pub copy_down : (child : ℕ) → PointsDown node 0 (next_copy v) child → CopiesIn v wv page (put.Down child)
     copy_down child x = copies_not (put.Down child) (refl, goes_down s k tv on a r qv page node here high_is 0 (next_copy v) child x)
@@ -172,25 +197,12 @@ module _ (s : State) (k : Kept s) (a : ℕ) (r : Actor) (there : slice_get s.act
     })
 
     pub copy_done : CopiesIn v wc page put.Done
-    copy_done =
-        let f = counted_to s.board.settings (copied_of r.split + 1) r.split in
-        record {
-          later = later_own s k a r there going (copy_in page node e) can qc (set_there s.actors a qc r there);
-          update = record { own = refl; shard = refl; records = refl; reserved = refl };
-          leaf = record { leaf = refl; wanted = refl };
-          sweep = record { sweep = refl; swept = refl };
-          gathered = record { splitting = f.0; mark = f.1; whole = f.2; copies = f.3 };
-          flags = record { undone = refl; early = refl };
-          actors = record { absorbed = refl; forked = refl };
-          pin = refl; floor = refl; fresh = refl; owes = refl;
-          board = record { seen = refl; lacked = refl; told = refl; note = record { allotted = refl; holder = refl; pins = refl; given = refl; retired = refl; passed = refl; root = refl; height = refl } };
-          tries = record { tried = refl; found = refl };
-          page_is = refl;
-          answer = (ap (λ o. copied_of (copied_to (copied_of o + 1) o)) can.2.split ∙ ap (λ o. copied_of o + 1) (sym can.2.split),
-            is_reached s k tc (onward s k a r there (copy_in page node e) can) a r qc page node can.0.there (ap (λ o. (node_or_fresh o).high) there_now) 0 (next_copy v)
-              (record { level = can.0.level; under = ap (is_below node.high) next ∙ can.6.below_high }),
-            taken);
-        }
+    copy_done = copies_by s tc.pages tc.actors a r page (copied_to (copied_of r.split + 1) r.split) r.undone r.early (later_own s k a r there going (copy_in page node e) can qc (set_there s.actors a qc r there))
+        (counted_to s tc.pages tc.actors a r page (copied_of r.split + 1) r.undone r.early) (record { undone = refl; early = refl }) put.Done
+        (ap (λ o. copied_of (copied_to (copied_of o + 1) o)) can.2.split ∙ ap (λ o. copied_of o + 1) (sym can.2.split),
+          is_reached s k tc (onward s k a r there (copy_in page node e) can) a r qc page node can.0.there (ap (λ o. (node_or_fresh o).high) there_now) 0 (next_copy v)
+            (record { level = can.0.level; under = ap (is_below node.high) next ∙ can.6.below_high }),
+          taken)
 
   -- the last copy is taken back
   module _ (e : Entry) (told : Bool) (can : Can s a r (uncopy page node e told)) where
@@ -219,24 +231,12 @@ module _ (s : State) (k : Kept s) (a : ℕ) (r : Actor) (there : slice_get s.act
     fewer_copied = (let some = can.3 in omega (arith, ap (λ o. copied_of (copied_to (copied_of o - 1) o)) can.2, ap copied_of can.2))
 
     pub uncopy_done : told ≡ v.told → Uncopies v wu page put.Done
-    uncopy_done is =
-        let f = counted_to s.board.settings (copied_of r.split - 1) r.split in
-        record {
-          later = later_own s k a r there going (uncopy page node e told) can qu (set_there s.actors a qu r there);
-          update = record { own = refl; shard = refl; records = refl; reserved = refl };
-          leaf = record { leaf = refl; wanted = refl };
-          sweep = record { sweep = refl; swept = refl };
-          gathered = record { splitting = f.0; mark = f.1; whole = f.2; copies = f.3 };
-          actors = record { absorbed = refl; forked = refl };
-          pin = refl; floor = refl; fresh = refl; owes = refl;
-          board = record { seen = refl; lacked = refl; told = refl; note = record { allotted = refl; holder = refl; pins = refl; given = refl; retired = refl; passed = refl; root = refl; height = refl } };
-          tries = record { tried = refl; found = refl };
-          page_is = refl;
-          answer = (fewer_copied,
-            is_reached s k tu (onward s k a r there (uncopy page node e told) can) a r qu page node can.0.there (ap (λ o. (node_or_fresh o).high) left_now) 0 (last_copy v)
-              (record { level = can.0.level; under = ap (is_below node.high) last ∙ can.7.below_high }),
-            refl, early_is told r.early ∙ ap (λ b. r.early || not b) is);
-        }
+    uncopy_done is = uncopies_by s tu.pages tu.actors a r page (copied_to (copied_of r.split - 1) r.split) true (cond told r.early true)
+        (later_own s k a r there going (uncopy page node e told) can qu (set_there s.actors a qu r there)) (counted_to s tu.pages tu.actors a r page (copied_of r.split - 1) true (cond told r.early true)) put.Done
+        (fewer_copied,
+          is_reached s k tu (onward s k a r there (uncopy page node e told) can) a r qu page node can.0.there (ap (λ o. (node_or_fresh o).high) left_now) 0 (last_copy v)
+            (record { level = can.0.level; under = ap (is_below node.high) last ∙ can.7.below_high }),
+          refl, early_is told r.early ∙ ap (λ b. r.early || not b) is)
 
 -- the same, of each event
 module _ (page : ℕ) (node : Node) where

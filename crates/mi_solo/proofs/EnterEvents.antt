@@ -40,7 +40,7 @@ use Rattle.mi_solo.proofs.CommitLemmas.{find_else, find_gone, find_more, find_ne
 use Rattle.mi_solo.proofs.DescentLemmas.{is_reached, page_stands}
 use Rattle.mi_solo.proofs.LaterLemmas.{onward}
 use Rattle.mi_solo.proofs.OwnLemmas.{later_own, made, sees_own}
-use Rattle.mi_solo.proofs.SectionLemmas.{another_self, low, own_found}
+use Rattle.mi_solo.proofs.SectionLemmas.{another_self, apart_by, low, own_found}
 use Rattle.mi_solo.proofs.ViewLemmas.{pin_more}
 
 live_of : (c : Configuration) (log : List LogEvent) (id : ℕ) (o : Option Record) (x : Record) → o ≡ Some x → Agrees c log id o → is_live id (updates_of log) ≡ true
@@ -162,13 +162,7 @@ module _ (s : State) (k : Kept s) (a : ℕ) (r : Actor) (there : slice_get s.act
     insert_done = record {
       later = later_own s k a r there going (insert op id page node kept e) can qi now_insert;
       lacked = refl; told = refl; leaf = refl;
-      apart = record {
-        sweep = record { sweep = refl; swept = refl };
-        split = record { splitting = refl; mark = refl; whole = refl; copies = refl; copied = refl };
-        flags = record { undone = refl; early = refl };
-        actors = record { absorbed = refl; forked = refl };
-        pin = same_pin s k a r there op id ui kept can.may.shard can.may.kept_is;
-      };
+      apart = apart_by s t a r qi refl refl refl refl refl (same_pin s k a r there op id ui kept can.may.shard can.may.kept_is);
       floor = refl; fresh = refl; owes = refl;
       board = sees_own s k a r there going (insert op id page node kept e) can qi now_insert;
       tries = record { tried = refl; found = same_found s k a r there op id ui kept can.may.shard can.may.kept_is (with_record y kept) };
@@ -227,13 +221,7 @@ module _ (s : State) (k : Kept s) (a : ℕ) (r : Actor) (there : slice_get s.act
     delete_done = record {
       later = later_own s k a r there going (delete op id page node kept key) can qd now_delete;
       lacked = refl; told = refl; leaf = refl;
-      apart = record {
-        sweep = record { sweep = refl; swept = refl };
-        split = record { splitting = refl; mark = refl; whole = refl; copies = refl; copied = refl };
-        flags = record { undone = refl; early = refl };
-        actors = record { absorbed = refl; forked = refl };
-        pin = same_pin s k a r there op id ud kept can.may.shard can.may.kept_is;
-      };
+      apart = apart_by s td a r qd refl refl refl refl refl (same_pin s k a r there op id ud kept can.may.shard can.may.kept_is);
       floor = refl; fresh = refl; owes = refl;
       board = sees_own s k a r there going (delete op id page node kept key) can qd now_delete;
       tries = record { tried = refl; found = same_found s k a r there op id ud kept can.may.shard can.may.kept_is (without_id id kept) };

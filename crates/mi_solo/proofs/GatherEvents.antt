@@ -30,14 +30,14 @@ use Rattle.mi_core.specs.Events.{Can, after, copied_of, leaf_or, with_split_at}
 use Rattle.mi_core.specs.Events.Event.{gather, start}
 use Rattle.mi_core.specs.Kept.{Kept}
 use Rattle.mi_core.specs.Pages.{forest_of, node_or_fresh}
-use Rattle.mi_core.specs.State.{State, node_at}
+use Rattle.mi_core.specs.State.{State, node_at, put_actor}
 use Rattle.mi_core.proofs.ActorLemmas.{set_there}
 use Rattle.mi_core.proofs.KeptEvents.{each_keeps}
 use Rattle.mi_world.specs.declared.answers.Visit.{Visit}
 use Rattle.mi_world.specs.declared.answers.Visit.TheVariants.{Down, Right, Read}
 use Rattle.mi_world.specs.Pages.{IsReached}
 use Rattle.mi_world.specs.Splits.{GatherAnswer, Gathers, GathersNone, MayGather, copied_in, copies_in, first_key, gather_key, last_key, whole_in}
-use Rattle.mi_world.specs.View.{View, prefix_or}
+use Rattle.mi_world.specs.View.{Later, View, prefix_or}
 use Rattle.mi_solo.specs.Onward.{Makes}
 use Rattle.mi_solo.specs.Seeking.{EndsAfter, PointsDown, PointsRight, ReadsOn}
 use Rattle.mi_solo.specs.Viewing.{copy_keys, gathered_to, is_whole, leaf_wanted, shown_to}
@@ -45,6 +45,27 @@ use Rattle.mi_solo.proofs.DescentLemmas.{goes_down, goes_right, is_reached, read
 use Rattle.mi_solo.proofs.LaterLemmas.{onward}
 use Rattle.mi_solo.proofs.MarkLemmas.{born_few, end_is, fewer, map_more, mark_ends, mark_on, start_before}
 use Rattle.mi_solo.proofs.OwnLemmas.{later_own, made}
+use Rattle.mi_solo.proofs.QuietLemmas.{board_by, leaf_by, tries_by, update_by}
+
+-- a gather changes its actor's split alone, and the page noted
+gathers_by : (s : State) (a : ℕ) (r : Actor) (page : ℕ) (w : SplitWork) → Later (shown_to s a r) (shown_to (put_actor a (with_split_at (Some w) page r) s) a (with_split_at (Some w) page r))
+    → (result : Result Visit NoMemory) → GatherAnswer (shown_to s a r) (shown_to (put_actor a (with_split_at (Some w) page r) s) a (with_split_at (Some w) page r)) page result
+    → Gathers (shown_to s a r) (shown_to (put_actor a (with_split_at (Some w) page r) s) a (with_split_at (Some w) page r)) page result
+gathers_by s a r page w later result answer =
+    let q : Actor = with_split_at (Some w) page r in
+    let t : State = put_actor a q s in
+    record {
+      later = later;
+      update = update_by s t a r q refl refl refl refl;
+      leaf = leaf_by s t a r q refl refl;
+      sweep = record { sweep = refl; swept = refl };
+      flags = record { undone = refl; early = refl };
+      actors = record { absorbed = refl; forked = refl };
+      pin = refl; floor = refl; fresh = refl; owes = refl;
+      board = board_by s t a r q refl refl;
+      tries = tries_by s t a r q refl refl;
+      page_is = refl; answer = answer;
+    }
 
 module _ (s : State) (k : Kept s) (a : ℕ) (r : Actor) (there : slice_get s.actors a ≡ Some r) (going : r.ended ≡ false) (page : ℕ) where
   abbrev v : View
@@ -117,18 +138,7 @@ module _ (s : State) (k : Kept s) (a : ℕ) (r : Actor) (there : slice_get s.act
       none = record { splitting = refl; mark = mark_is; gathered = copies_are; copied = copied_is; whole = whole_is }
 
       gathers_none : (result : Result Visit NoMemory) → GatherAnswer v ws page result → Gathers v ws page result
-      gathers_none result answer = record {
-        later = later_own s k a r there going (start page) can qs now;
-        update = record { own = refl; shard = refl; records = refl; reserved = refl };
-        leaf = record { leaf = refl; wanted = refl };
-        sweep = record { sweep = refl; swept = refl };
-        flags = record { undone = refl; early = refl };
-        actors = record { absorbed = refl; forked = refl };
-        pin = refl; floor = refl; fresh = refl; owes = refl;
-        board = record { seen = refl; lacked = refl; told = refl; note = record { allotted = refl; holder = refl; pins = refl; given = refl; retired = refl; passed = refl; root = refl; height = refl } };
-        tries = record { tried = refl; found = refl };
-        page_is = refl; answer = answer;
-      }
+      gathers_none result answer = gathers_by s a r page W (later_own s k a r there going (start page) can qs now) result answer
 
       pub gather_memory : (e : NoMemory) → Gathers v ws page (Err e)
       gather_memory e = gathers_none (Err e) none
@@ -191,18 +201,7 @@ module _ (s : State) (k : Kept s) (a : ℕ) (r : Actor) (there : slice_get s.act
       }
 
       gathers_page : (next : Option ℕ) → GatherAnswer v wg page (Ok (Read next)) → Gathers v wg page (Ok (Read next))
-      gathers_page next answer = record {
-        later = later_own s k a r there going (gather page node) can qg now_g;
-        update = record { own = refl; shard = refl; records = refl; reserved = refl };
-        leaf = record { leaf = refl; wanted = refl };
-        sweep = record { sweep = refl; swept = refl };
-        flags = record { undone = refl; early = refl };
-        actors = record { absorbed = refl; forked = refl };
-        pin = refl; floor = refl; fresh = refl; owes = refl;
-        board = record { seen = refl; lacked = refl; told = refl; note = record { allotted = refl; holder = refl; pins = refl; given = refl; retired = refl; passed = refl; root = refl; height = refl } };
-        tries = record { tried = refl; found = refl };
-        page_is = refl; answer = answer;
-      }
+      gathers_page next answer = gathers_by s a r page G (later_own s k a r there going (gather page node) can qg now_g) (Ok (Read next)) answer
 
       high_is : (node_or_fresh (node_at s.pages page)).high ≡ node.high
       high_is = ap (λ o. (node_or_fresh o).high) can.0.there

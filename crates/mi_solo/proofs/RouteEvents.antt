@@ -42,7 +42,8 @@ use Rattle.mi_solo.proofs.CommitEvents.{full_page}
 use Rattle.mi_solo.proofs.DescentLemmas.{goes_down, goes_right, is_reached, page_stands}
 use Rattle.mi_solo.proofs.LaterLemmas.{linked_at, onward}
 use Rattle.mi_solo.proofs.OwnLemmas.{later_own, sees_own}
-use Rattle.mi_solo.proofs.QuietLemmas.{same_board, same_tries, same_work}
+use Rattle.mi_solo.proofs.QuietLemmas.{same_board, same_tries, same_work, update_by}
+use Rattle.mi_solo.proofs.SectionLemmas.{apart_by}
 
 abbrev owed_in : List Owed → ℕ → Bool
 owed_in owed = λ p. list_any (λ (o : Owed). o.child == p) owed
@@ -351,17 +352,7 @@ module _ (s : State) (k : Kept s) (a : ℕ) (r : Actor) (there : slice_get s.act
       grows = record {
         later = later_own s k a r there going (grow level key child) can qg now_grown;
         lacked = refl; told = refl;
-        work = record {
-          update = record { own = refl; shard = refl; records = refl; reserved = refl };
-          leaf = record { leaf = refl; wanted = refl };
-          apart = record {
-            sweep = record { sweep = refl; swept = refl };
-            split = record { splitting = refl; mark = refl; whole = refl; copies = refl; copied = refl };
-            flags = record { undone = refl; early = refl };
-            actors = record { absorbed = refl; forked = refl };
-            pin = refl;
-          };
-        };
+        work = record { update = update_by s tg a r qg refl refl refl refl; leaf = record { leaf = refl; wanted = refl }; apart = apart_by s tg a r qg refl refl refl refl refl refl };
         floor = refl;
         board = sees_own s k a r there going (grow level key child) can qg now_grown;
         page = record {

@@ -1,5 +1,5 @@
 -- Sweeps and trims.
-use Rattle.std.proofs.Common.{◌≡◌, ℕ, ◌+◌, ◌≤◌, ◌==◌, false, cond, refl, sym, ap, ◌∙◌, subst, arith, Option, Some, None, set, get_or-set_same}
+use Rattle.std.proofs.Common.{◌≡◌, ℕ, List, ◌+◌, ◌≤◌, ◌==◌, false, cond, refl, sym, ap, ◌∙◌, subst, arith, Option, Some, None, set, get_or-set_same}
 use Rattle.std.specs.Prelude.{slice_get}
 use Rattle.std.proofs.lemmas.Bool.{eq-eqb, le-ltb, ne_eqb}
 use Rattle.mi_base.specs.Configuration.{Configuration}
@@ -21,7 +21,7 @@ use Rattle.mi_world.specs.declared.answers.Visit.TheVariants.{Down, Right, Read}
 use Rattle.mi_world.specs.Pages.{IsReached, TrimAnswer, Trims}
 use Rattle.mi_world.specs.Splits.{SweepAnswer, Sweeps, last_key}
 use Rattle.mi_world.specs.LeafKeys.{greatest_key}
-use Rattle.mi_world.specs.View.{View, prefix_or}
+use Rattle.mi_world.specs.View.{Later, View, prefix_or}
 use Rattle.mi_solo.specs.Onward.{Makes}
 use Rattle.mi_solo.specs.Seeking.{EndsAfter, PointsDown, PointsRight, ReadsOn, TrimsTo}
 use Rattle.mi_solo.specs.Viewing.{shown_to, swept_leaf, swept_to}
@@ -29,7 +29,33 @@ use Rattle.mi_solo.proofs.DescentLemmas.{goes_down, goes_right, is_reached, read
 use Rattle.mi_solo.proofs.LaterLemmas.{onward}
 use Rattle.mi_solo.proofs.MarkLemmas.{end_is, mark_ends, mark_on}
 use Rattle.mi_solo.proofs.OwnLemmas.{later_own, made}
-use Rattle.mi_solo.proofs.QuietLemmas.{same_board, same_own, same_tries}
+use Rattle.mi_solo.proofs.QuietLemmas.{board_by, leaf_by, same_board, same_own, same_tries, tries_by, update_by}
+use Rattle.mi_solo.proofs.SectionLemmas.{split_by}
+
+-- a sweep changes no more of its actor's record than how far it has come, and the page noted
+module _ (s : State) (pages : List (Option Node)) (actors : List Actor) (a : ℕ) (r : Actor) (page : ℕ) (o : Option SweepWork) where
+  abbrev t : State
+  t = record { board = s.board; shards = s.shards; pages = pages; actors = actors }
+
+  abbrev q : Actor
+  q = record r { page = page; sweep = o }
+
+  abbrev w : View
+  w = shown_to (record { board = s.board; shards = s.shards; pages = pages; actors = actors }) a (record r { page = page; sweep = o })
+
+  sweeps_by : Later (shown_to s a r) w → (result : Visit) → SweepAnswer (shown_to s a r) w page result → Sweeps (shown_to s a r) w page result
+  sweeps_by later result answer = record {
+    later = later;
+    update = update_by s t a r q refl refl refl refl;
+    leaf = leaf_by s t a r q refl refl;
+    split = split_by s t a r q refl refl;
+    flags = record { undone = refl; early = refl };
+    actors = record { absorbed = refl; forked = refl };
+    pin = refl; floor = refl; fresh = refl; owes = refl;
+    board = board_by s t a r q refl refl;
+    tries = tries_by s t a r q refl refl;
+    page_is = refl; answer = answer;
+  }
 
 module _ (s : State) (k : Kept s) (a : ℕ) (r : Actor) (there : slice_get s.actors a ≡ Some r) (going : r.ended ≡ false) (page : ℕ) (node : Node) where
   abbrev v : View
@@ -85,18 +111,7 @@ module _ (s : State) (k : Kept s) (a : ℕ) (r : Actor) (there : slice_get s.act
     high_v = ap (λ o. (node_or_fresh o).high) here
 
     sweeps_not : (result : Visit) → SweepAnswer v wv page result → Sweeps v wv page result
-    sweeps_not result answer = record {
-      later = later_own s k a r there going (visit page) can qv (set_there s.actors a qv r there);
-      update = record { own = refl; shard = refl; records = refl; reserved = refl };
-      leaf = record { leaf = refl; wanted = refl };
-      split = record { splitting = refl; mark = refl; whole = refl; copies = refl; copied = refl };
-      flags = record { undone = refl; early = refl };
-      actors = record { absorbed = refl; forked = refl };
-      pin = refl; floor = refl; fresh = refl; owes = refl;
-      board = same_board s s.pages (set s.actors a qv) a r r.seen page r.fresh r.owed;
-      tries = same_tries s s.pages (set s.actors a qv) a r r.seen page r.fresh r.owed;
-      page_is = refl; answer = answer;
-    }
+    sweeps_not result answer = sweeps_by s s.pages (set s.actors a qv) a r page r.sweep (later_own s k a r there going (visit page) can qv (set_there s.actors a qv r there)) result answer
 
     pub sweep_down : (child : ℕ) → PointsDown node 0 v.swept child → Sweeps v wv page (Down child)
     sweep_down child x = sweeps_not (Down child) (record { sweep = refl; swept = refl }, goes_down s k tv (onward s k a r there (visit page) can) a r qv page node here high_v 0 v.swept child x)
@@ -130,26 +145,15 @@ module _ (s : State) (k : Kept s) (a : ℕ) (r : Actor) (there : slice_get s.act
     last_is : cell_end (grid s.board.settings) x.leaf ≡ last_key v v.sweep + 1
     last_is = end_is c x.leaf ∙ ap (λ o. greatest_key c (prefix_or (swept_leaf o)) + 1) (sym sweeping)
 
-    sweeps_by : (next : Option ℕ) → SweepAnswer v ws page (Read next) → Sweeps v ws page (Read next)
-    sweeps_by next answer = record {
-      later = later_own s k a r there going (sweep page node) can qs (set_there s.actors a qs r there);
-      update = record { own = refl; shard = refl; records = refl; reserved = refl };
-      leaf = record { leaf = refl; wanted = refl };
-      split = record { splitting = refl; mark = refl; whole = refl; copies = refl; copied = refl };
-      flags = record { undone = refl; early = refl };
-      actors = record { absorbed = refl; forked = refl };
-      pin = refl; floor = refl; fresh = refl; owes = refl;
-      board = record { seen = refl; lacked = refl; told = refl; note = record { allotted = refl; holder = refl; pins = refl; given = refl; retired = refl; passed = refl; root = refl; height = refl } };
-      tries = record { tried = refl; found = refl };
-      page_is = refl; answer = answer;
-    }
+    sweeps_read : (next : Option ℕ) → SweepAnswer v ws page (Read next) → Sweeps v ws page (Read next)
+    sweeps_read next answer = sweeps_by s ts.pages ts.actors a r page (sweep_next s.board.settings node r.sweep) (later_own s k a r there going (sweep page node) can qs (set_there s.actors a qs r there)) (Read next) answer
 
     reached : IsReached v ws page 0 v.swept
     reached = is_reached s k ts (onward s k a r there (sweep page node) can) a r qs page node can.0.there high_s 0 v.swept
         (record { level = can.0.level; under = ap (λ o. is_below node.high (swept_to o)) sweeping ∙ can.3.below_high })
 
     pub sweeps : (next : Option ℕ) → ReadsOn node (last_key v v.sweep) next → Sweeps v ws page (Read next)
-    sweeps None ends = sweeps_by None (
+    sweeps None ends = sweeps_read None (
         ap (λ o. swept_leaf (sweep_next c node o)) sweeping
           ∙ ap (λ m. swept_leaf (cond (m == cell_end (grid c) x.leaf) None (Some (record x { mark = m })))) (mark_ends node.high (last_key v v.sweep) (cell_end (grid c) x.leaf) last_is ends)
           ∙ (rw (eq-eqb (cell_end (grid c) x.leaf) (cell_end (grid c) x.leaf) refl) refl),
@@ -161,7 +165,7 @@ module _ (s : State) (k : Kept s) (a : ℕ) (r : Actor) (there : slice_get s.act
         let lt = m.1 in
         let next_work : sweep_next c node r.sweep ≡ Some (record x { mark = ws.low next }) =
         ap (sweep_next c node) sweeping ∙ ap (λ n. cond (n == cell_end (grid c) x.leaf) None (Some (record x { mark = n }))) m.0 ∙ (rw (ne_eqb (ws.low next) (cell_end (grid c) x.leaf) (λ same. omega arith)) refl) in
-        sweeps_by (Some next) ((ap swept_leaf next_work ∙ sym (ap swept_leaf sweeping), ap swept_to next_work), reached, on)
+        sweeps_read (Some next) ((ap swept_leaf next_work ∙ sym (ap swept_leaf sweeping), ap swept_to next_work), reached, on)
 
 -- when it may be an event
 pub can_sweep : (s : State) (a : ℕ) (r : Actor) (page : ℕ) (node : Node) → node_at s.pages page ≡ Some node → (w : SweepWork) → r.sweep ≡ Some w
