@@ -27,3 +27,4 @@ pub mod MarkLemmas
 pub mod GatherEvents
 pub mod CopyEvents
 pub mod SweepEvents
+pub mod KeyLemmas

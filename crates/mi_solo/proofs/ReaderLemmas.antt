@@ -54,7 +54,7 @@ use Rattle.mi_solo.proofs.SectionLemmas.{least_below}
 use Rattle.mi_solo.proofs.VisitEvents.{its, visits}
 
 -- each vector that was inserted fits
-inserted_fits : (c : Configuration) (before es : List LogEvent) → EachMayFollow c before es → (i id : ℕ) (v : List ℤ) → slice_get (updates_of es) i ≡ Some (Insert id v) → IsTrue ((metric_space c).fits v)
+pub inserted_fits : (c : Configuration) (before es : List LogEvent) → EachMayFollow c before es → (i id : ℕ) (v : List ℤ) → slice_get (updates_of es) i ≡ Some (Insert id v) → IsTrue ((metric_space c).fits v)
 inserted_fits c before [] each i id v h = absurd (none-some (Insert id v) h)
 inserted_fits c before (Made a op (Insert j u) ∷ es) each zero id v h =
     let same : Insert j u ≡ Insert id v = same_Some (Insert j u) (Insert id v) h in

@@ -1,14 +1,18 @@
 -- What one page tells: where the way of a key goes on, and how far a reader reads.
-use Rattle.std.specs.Prelude.{◌≡◌, ◌<◌, ◌^◌, ℕ, List, [], map, Option, Some, None, true, false, IsTrue}
+use Rattle.std.specs.Prelude.{◌≡◌, ◌<◌, ◌+◌, ◌^◌, ℕ, List, [], length, map, take, Option, Some, None, true, false, IsTrue}
 use Rattle.mi_base.specs.Configuration.{Configuration, metric_space, space_of}
-use Rattle.mi_base.specs.Permutations.{distances}
+use Rattle.mi_base.specs.Permutations.{begins, distances, permutation_of}
 use Rattle.mi_key.specs.declared.entries.Entry.{Entry}
 use Rattle.mi_key.specs.declared.ranges.Interval.{Interval}
+use Rattle.mi_key.specs.Clusters.{cluster_of}
 use Rattle.mi_key.specs.Entries.{Offering, offering_of}
+use Rattle.mi_key.specs.Keys.{key_of, parts_of}
 use Rattle.mi_page.specs.Entries.{shown_in}
 use Rattle.mi_page.specs.Keys.{is_below}
 use Rattle.mi_page.specs.Nodes.{Node}
 use Rattle.mi_page.specs.Routes.{IsChild}
+use Rattle.mi_entries.specs.Entries.{grid}
+use Rattle.mi_entries.specs.Splits.{copy_in_child}
 use Rattle.mi_world.specs.declared.answers.Visit.{Visit}
 use Rattle.mi_world.specs.declared.answers.Visit.TheVariants.{Down, Right, Read}
 use Rattle.mi_world.specs.View.{View}
@@ -28,6 +32,17 @@ pub record PointsDown (n : Node) (sought key child : ℕ) : Type 0 where
 pub record IsMeasured (c : Configuration) (e : Entry) : Type 0 where
   pub fits : IsTrue ((metric_space c).fits e.vector)
   pub dists : e.dists.items ≡ distances (space_of c) e.vector
+
+-- an entry of a leaf that is split, whose copy's key is told by the entry's distances and key
+pub record IsCopied (c : Configuration) (leaf : List ℕ) (e : Entry) : Type 0 where
+  pub measured : IsMeasured c e
+  pub under : begins leaf (permutation_of e.dists.items) ≡ true
+  pub key : (copy_in_child (grid c) leaf e).key ≡ key_of (record {
+    cluster = cluster_of (length c.pivots) c.levels (take (length leaf + 1) (permutation_of e.dists.items));
+    distance = (parts_of e.key).distance;
+    id = (parts_of e.key).id;
+    birth = (parts_of e.key).birth;
+  })
 
 -- a high key has at most 128 bits
 abbrev pub IsSmall : Option ℕ → Type 0

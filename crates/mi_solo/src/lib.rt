@@ -19,5 +19,5 @@ pub use pages::{
     deletes_follow, deletes_may_be, halves_follow, inserts_follow, inserts_may_be, pages_are_shown,
     posts_follow, roots_follow, visits_follow,
 };
-pub use splits::{copies_follow, gathers_follow, sweeps_follow, trims_follow, uncopies_follow};
+pub use splits::{copies_follow, gathers_follow, keys_fit, sweeps_follow, trims_follow, uncopies_follow};
 pub use views::{boards_are_seen, hands_are_shown, views_go_on};

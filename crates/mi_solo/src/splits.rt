@@ -1,5 +1,8 @@
 //! What the sections of splits and sweeps make of the view of their own actor, call by call. The functions do nothing.
-ghost use Rattle.std.specs.Prelude.{◌≡◌, ◌-◌, ◌<◌, ◌≤◌, ℕ, Bool, Option, Some, Ok, Err, false, true, length, slice_get};
+ghost use Rattle.std.specs.Prelude.{◌≡◌, ◌-◌, ◌<◌, ◌≤◌, ◌^◌, ℕ, ℤ, Bool, List, Option, Some, Ok, Err, false, true, length, slice_get};
+ghost use Rattle.std.specs.List.{AllByRecursion};
+ghost use Rattle.mi_base.specs.Permutations.{key_distance};
+ghost use Rattle.mi_base.specs.Prefixes.{all_below};
 ghost use Rattle.mi_base.specs.declared.refusals.NoMemory.{NoMemory};
 ghost use Rattle.mi_key.specs.declared.entries.Entry.{Entry};
 ghost use Rattle.mi_page.specs.Entries.{has_entry, without_dead};
@@ -15,10 +18,10 @@ ghost use Rattle.mi_core.specs.Kept.{Kept};
 ghost use Rattle.mi_core.specs.State.{State, node_at};
 ghost use Rattle.mi_world.specs.declared.answers.Put.TheVariants as put;
 ghost use Rattle.mi_world.specs.declared.answers.Visit.TheVariants.{Down, Read, Right};
-ghost use Rattle.mi_world.specs.Pages.{Trims};
+ghost use Rattle.mi_world.specs.Pages.{MayDelete, MayInsert, Trims, next_number};
 ghost use Rattle.mi_world.specs.Splits.{CopiesIn, Gathers, MayGather, Sweeps, Uncopies, gather_key, last_copy, last_key, next_copy};
 ghost use Rattle.mi_solo.specs.Onward.{Makes};
-ghost use Rattle.mi_solo.specs.Seeking.{EndsAfter, PointsDown, PointsRight, ReadsOn, TrimsTo};
+ghost use Rattle.mi_solo.specs.Seeking.{EndsAfter, IsCopied, PointsDown, PointsRight, ReadsOn, TrimsTo};
 ghost use Rattle.mi_solo.specs.Viewing.{shown_to};
 
 /// What a gather answers, and when it may be an event, or its beginning alone.
@@ -88,4 +91,17 @@ pub fn sweeps_follow()
 /// What a trim answers.
 pub fn trims_follow()
     ensures { (page : ℕ) (node : Node) (next : Option ℕ) → Makes (trim page node) (λ s v w. TrimsTo node next → Trims v w page (Read next)) }
+{}
+
+/// What keys are made of fits: the cell of a claimed leaf, the distance and the birth of an update, and what a split copies.
+pub fn keys_fit()
+    ensures claim { (s : State) → Kept s → (a : ℕ) (r : Actor) → slice_get s.actors a ≡ Some r → (p : List ℕ) → r.claim ≡ Some p
+        → (length p ≤ s.board.settings.levels) × (all_below (length s.board.settings.pivots) p ≡ true) }
+    ensures insert { (s : State) → Kept s → (a : ℕ) (r : Actor) → slice_get s.actors a ≡ Some r → (id : ℕ) (vector : List ℤ) (dists : List ℕ) → MayInsert (shown_to s a r) id vector dists
+        → (key_distance dists < 2 ^ 27) × (next_number (shown_to s a r) < 2 ^ 30) }
+    ensures delete { (s : State) → Kept s → (a : ℕ) (r : Actor) → slice_get s.actors a ≡ Some r → (id : ℕ) → (may : MayDelete (shown_to s a r) id)
+        → (key_distance may.kept.dists.items < 2 ^ 27) × (may.kept.birth < 2 ^ 30) }
+    ensures above { (s : State) → Kept s → (a : ℕ) (r : Actor) → slice_get s.actors a ≡ Some r → (w : SplitWork) → r.split ≡ Some w → length w.leaf < s.board.settings.levels }
+    ensures copied { (s : State) → Kept s → (a : ℕ) (r : Actor) → slice_get s.actors a ≡ Some r → (w : SplitWork) → r.split ≡ Some w
+        → AllByRecursion (IsCopied s.board.settings w.leaf) w.gathered }
 {}
