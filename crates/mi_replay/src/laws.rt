@@ -1,5 +1,5 @@
 //! What is true of two operations of a run. The functions do nothing.
-ghost use Rattle.std.specs.Prelude.{◌≡◌, ◌≤◌, ◌<◌, ◌+◌, ◌-◌, ◌++◌, ℕ, List, Some, true, length};
+ghost use Rattle.std.specs.Prelude.{◌≡◌, ◌≤◌, ◌<◌, ◌+◌, ◌-◌, ◌++◌, ◌⊎◌, ℕ, List, Some, true, length};
 ghost use Rattle.mi_base.specs.declared.records.Op.{Op};
 ghost use Rattle.mi_base.specs.declared.records.Reply.{Reply};
 ghost use Rattle.mi_base.specs.declared.records.ScheduleItem.{ScheduleItem};
@@ -7,11 +7,14 @@ ghost use Rattle.mi_base.specs.Configuration.{Configuration};
 ghost use Rattle.mi_core.specs.Events.{opened};
 ghost use Rattle.mi_core.specs.Kept.{Kept};
 ghost use Rattle.mi_core.specs.State.{State};
+ghost use Rattle.mi_entries.specs.Actors.{Actor};
+ghost use Rattle.mi_job.specs.Claims.{IsHeld};
 ghost use Rattle.mi_job.specs.Jobs.{is_query};
+ghost use Rattle.mi_solo.specs.Viewing.{shown_to};
 ghost use Rattle.mi_legal.specs.Legal.{events_to, reach};
 ghost use Rattle.mi_tree.specs.declared.outcomes.Outcome.{Outcome};
 ghost use Rattle.mi_update.specs.Stepping.{number_told};
-ghost use Rattle.mi_replay.specs.InOrder.{InOrder};
+ghost use Rattle.mi_replay.specs.InOrder.{InOrder, LeafIsHeld, ShardIsHeld};
 ghost use Rattle.mi_replay.specs.Turns.{Chained, Operation, Turn};
 
 /// A run in order is one run from the opened core to the state that has the outcome's log.
@@ -37,4 +40,9 @@ pub fn queries_tell_nothing_later()
     ensures { (c : Configuration) (s t : State) (turns : List Turn) → Kept s → Chained s turns t → (k j l i : ℕ) (o p : Op) (y z : Reply) (n m : ℕ)
         → (x : Operation c turns k j o y) (w : Operation c turns l i p z) → is_query o ≡ true → x.first < w.first → reach t.board.log y ≡ Some n → number_told z ≡ Some m
         → n < events_to m t.board.log }
+{}
+
+/// Where a job found a claim held, another actor holds it in the state that its actor's view is of.
+pub fn held_claims_are_there()
+    ensures { (s : State) (a : ℕ) (r : Actor) (o : Op) → IsHeld o (shown_to s a r) → ShardIsHeld s a o ⊎ LeafIsHeld s a o }
 {}

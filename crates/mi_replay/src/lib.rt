@@ -4,6 +4,6 @@
 mod laws;
 
 pub use laws::{
-    earlier_updates_have_smaller_numbers, queries_tell_nothing_later,
+    earlier_updates_have_smaller_numbers, held_claims_are_there, queries_tell_nothing_later,
     replies_tell_what_ended_before, runs_in_order_are_runs,
 };
