@@ -28,3 +28,4 @@ pub mod GatherEvents
 pub mod CopyEvents
 pub mod SweepEvents
 pub mod KeyLemmas
+pub mod SoloLemmas

@@ -19,44 +19,44 @@ use Rattle.mi_solo.proofs.LaterLemmas.{later_from, onward}
 
 module _ (s : State) (k : Kept s) (a : ℕ) (r : Actor) (there : slice_get s.actors a ≡ Some r) where
   -- the actor's record after an event
-  pub mine : (e : Event) → Can s a r e → (q : Actor) × (slice_get (after s a r e).actors a ≡ Some q) × (IsTrue r.lacked → IsTrue q.lacked)
-  mine lack can = (_, set_there s.actors a _ r there, λ l. refl)
-  mine fork can = (saw s.board r, get_more (set s.actors a (saw s.board r)) (made_actor s.board r.floor ∷ []) a (saw s.board r) (set_there s.actors a (saw s.board r) r there), λ l. l)
+  pub mine : (e : Event) → Can s a r e → (q : Actor) × (slice_get (after s a r e).actors a ≡ Some q) × (IsTrue r.lacked → IsTrue q.lacked) × (q.ended ≡ r.ended)
+  mine lack can = (_, set_there s.actors a _ r there, λ l. refl, refl)
+  mine fork can = (saw s.board r, get_more (set s.actors a (saw s.board r)) (made_actor s.board r.floor ∷ []) a (saw s.board r) (set_there s.actors a (saw s.board r) r there), λ l. l, refl)
   mine (absorb b t) can =
       let q : Actor = more_seen t r in
-      (q, set_else (set s.actors a q) b a (ended t) (λ e. can.0 (sym e)) ∙ set_there s.actors a q r there, λ l. ap (λ z. cond z true t.lacked) l)
-  mine see can = (_, set_there s.actors a _ r there, λ l. l)
-  mine look can = (_, set_there s.actors a _ r there, λ l. l)
-  mine (meet page) can = (_, set_there s.actors a _ r there, λ l. l)
-  mine (refuse why) can = (_, set_there s.actors a _ r there, λ l. l)
-  mine (refuse_at page why) can = (_, set_there s.actors a _ r there, λ l. l)
-  mine (visit page) can = (_, set_there s.actors a _ r there, λ l. l)
-  mine (start page) can = (_, set_there s.actors a _ r there, λ l. l)
-  mine (trim page node) can = (_, set_there s.actors a _ r there, λ l. l)
-  mine (miss_shard n) can = (_, set_there s.actors a _ r there, λ l. l)
-  mine (claim_shard n kept) can = (_, set_there s.actors a _ r there, λ l. l)
-  mine (release_shard n kept) can = (_, set_there s.actors a _ r there, λ l. l)
-  mine (reserve n kept room) can = (_, set_there s.actors a _ r there, λ l. l)
-  mine pin can = (_, set_there s.actors a _ r there, λ l. l)
-  mine unpin can = (_, set_there s.actors a _ r there, λ l. l)
-  mine (claim_leaf p) can = (_, set_there s.actors a _ r there, λ l. l)
-  mine release_leaf can = (_, set_there s.actors a _ r there, λ l. l)
-  mine (insert op id page node kept e) can = (_, set_there s.actors a _ r there, λ l. l)
-  mine (delete op id page node kept key) can = (_, set_there s.actors a _ r there, λ l. l)
-  mine allot can = (_, set_there s.actors a _ r there, λ l. l)
-  mine (grow level key child) can = (_, set_there s.actors a _ r there, λ l. l)
-  mine (split_page page node) can = (_, set_there s.actors a _ r there, λ l. l)
-  mine (post page node key child) can = (_, set_there s.actors a _ r there, λ l. l)
-  mine (gather page node) can = (_, set_there s.actors a _ r there, λ l. l)
-  mine (copy_in page node e) can = (_, set_there s.actors a _ r there, λ l. l)
-  mine (uncopy page node e told) can = (_, set_there s.actors a _ r there, λ l. l)
-  mine publish can = (_, set_there s.actors a _ r there, λ l. l)
-  mine (give_up pages) can = (_, set_there s.actors a _ r there, λ l. l)
-  mine (take_sweep p) can = (_, set_there s.actors a _ r there, λ l. l)
-  mine (take_split p) can = (_, set_there s.actors a _ r there, λ l. l)
-  mine no_work can = (_, set_there s.actors a _ r there, λ l. l)
-  mine (sweep page node) can = (_, set_there s.actors a _ r there, λ l. l)
-  mine depart can = (_, set_there s.actors a _ r there, λ l. l)
+      (q, set_else (set s.actors a q) b a (ended t) (λ e. can.0 (sym e)) ∙ set_there s.actors a q r there, λ l. ap (λ z. cond z true t.lacked) l, refl)
+  mine see can = (_, set_there s.actors a _ r there, λ l. l, refl)
+  mine look can = (_, set_there s.actors a _ r there, λ l. l, refl)
+  mine (meet page) can = (_, set_there s.actors a _ r there, λ l. l, refl)
+  mine (refuse why) can = (_, set_there s.actors a _ r there, λ l. l, refl)
+  mine (refuse_at page why) can = (_, set_there s.actors a _ r there, λ l. l, refl)
+  mine (visit page) can = (_, set_there s.actors a _ r there, λ l. l, refl)
+  mine (start page) can = (_, set_there s.actors a _ r there, λ l. l, refl)
+  mine (trim page node) can = (_, set_there s.actors a _ r there, λ l. l, refl)
+  mine (miss_shard n) can = (_, set_there s.actors a _ r there, λ l. l, refl)
+  mine (claim_shard n kept) can = (_, set_there s.actors a _ r there, λ l. l, refl)
+  mine (release_shard n kept) can = (_, set_there s.actors a _ r there, λ l. l, refl)
+  mine (reserve n kept room) can = (_, set_there s.actors a _ r there, λ l. l, refl)
+  mine pin can = (_, set_there s.actors a _ r there, λ l. l, refl)
+  mine unpin can = (_, set_there s.actors a _ r there, λ l. l, refl)
+  mine (claim_leaf p) can = (_, set_there s.actors a _ r there, λ l. l, refl)
+  mine release_leaf can = (_, set_there s.actors a _ r there, λ l. l, refl)
+  mine (insert op id page node kept e) can = (_, set_there s.actors a _ r there, λ l. l, refl)
+  mine (delete op id page node kept key) can = (_, set_there s.actors a _ r there, λ l. l, refl)
+  mine allot can = (_, set_there s.actors a _ r there, λ l. l, refl)
+  mine (grow level key child) can = (_, set_there s.actors a _ r there, λ l. l, refl)
+  mine (split_page page node) can = (_, set_there s.actors a _ r there, λ l. l, refl)
+  mine (post page node key child) can = (_, set_there s.actors a _ r there, λ l. l, refl)
+  mine (gather page node) can = (_, set_there s.actors a _ r there, λ l. l, refl)
+  mine (copy_in page node e) can = (_, set_there s.actors a _ r there, λ l. l, refl)
+  mine (uncopy page node e told) can = (_, set_there s.actors a _ r there, λ l. l, refl)
+  mine publish can = (_, set_there s.actors a _ r there, λ l. l, refl)
+  mine (give_up pages) can = (_, set_there s.actors a _ r there, λ l. l, refl)
+  mine (take_sweep p) can = (_, set_there s.actors a _ r there, λ l. l, refl)
+  mine (take_split p) can = (_, set_there s.actors a _ r there, λ l. l, refl)
+  mine no_work can = (_, set_there s.actors a _ r there, λ l. l, refl)
+  mine (sweep page node) can = (_, set_there s.actors a _ r there, λ l. l, refl)
+  mine depart can = (_, set_there s.actors a _ r there, λ l. l, refl)
 
   module _ (going : r.ended ≡ false) (e : Event) (can : Can s a r e) (q : Actor) (now : slice_get (after s a r e).actors a ≡ Some q) where
     pub later_own : Later (shown_to s a r) (shown_to (after s a r e) a q)
@@ -64,6 +64,12 @@ module _ (s : State) (k : Kept s) (a : ℕ) (r : Actor) (there : slice_get s.act
         let m = mine e can in
         later_from s (after s a r e) (each_keeps e s k a r there going can) (onward s k a r there e can) a r q
         (λ l. subst (λ (x : Actor). IsTrue x.lacked) (same_Some m.0 q (sym m.1 ∙ now)) (m.2 l))
+
+    -- who makes an event of its own hasn't ended after it
+    pub goes_on : q.ended ≡ false
+    goes_on =
+        let m = mine e can in
+        ap (λ (x : Actor). x.ended) (same_Some q m.0 (sym now ∙ m.1)) ∙ m.3 ∙ going
 
     pub sees_own : SeesBoard (shown_to (after s a r e) a q)
     sees_own = sees_board (after s a r e) (each_keeps e s k a r there going can) a q now

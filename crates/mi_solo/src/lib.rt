@@ -8,6 +8,7 @@ mod pages;
 mod rows;
 mod shard_sections;
 mod shards;
+mod solo;
 mod splits;
 mod views;
 
@@ -19,5 +20,8 @@ pub use pages::{
     deletes_follow, deletes_may_be, halves_follow, inserts_follow, inserts_may_be, pages_are_shown,
     posts_follow, roots_follow, visits_follow,
 };
-pub use splits::{copies_follow, gathers_follow, keys_fit, sweeps_follow, trims_follow, uncopies_follow};
+pub use solo::Solo;
+pub use splits::{
+    copies_follow, gathers_follow, keys_fit, sweeps_follow, trims_follow, uncopies_follow,
+};
 pub use views::{boards_are_seen, hands_are_shown, views_go_on};

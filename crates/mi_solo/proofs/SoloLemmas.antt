@@ -1,0 +1,59 @@
+-- What one event makes of a core in the turn of an actor.
+use Rattle.std.proofs.Common.{◌≡◌, ℕ, ◌<◌, length, refl, sym, ap, ◌∙◌, subst, arith, Some, inr}
+use Rattle.std.specs.Prelude.{slice_get}
+use Rattle.std.proofs.lemmas.Option.{get_or_from_slice_get, slice_get_within}
+use Rattle.mi_core.proofs.KeptEvents.{each_keeps}
+use Rattle.mi_core.specs.Events.{Event, after, first_actor}
+use Rattle.mi_core.specs.Kept.{Kept}
+use Rattle.mi_core.specs.State.{State}
+use Rattle.mi_entries.specs.Actors.{Actor}
+use Rattle.mi_solo.specs.declared.cores.Core.{Core}
+use Rattle.mi_solo.specs.Onward.{Makes}
+use Rattle.mi_solo.specs.States.{Does, IsGoing, actor_in, state_of}
+use Rattle.mi_solo.specs.Solos.{MayTurn, Section, SoloState, view_of}
+use Rattle.mi_solo.proofs.CoreLemmas.{length-actors_of, there}
+use Rattle.mi_solo.proofs.OwnLemmas.{goes_on, mine}
+use Rattle.mi_world.specs.View.{View}
+
+abbrev pub solo_of : Core → ℕ → SoloState
+solo_of c a = record { state = state_of c; turn = a }
+
+module _ (c : Core) (a : ℕ) where
+  pub may_turn : IsGoing c a → MayTurn (state_of c) a
+  may_turn g = record { made = omega (arith, g.known, length-actors_of c.board.log 0 c.actors.items); going = g.going }
+
+  pub is_going : MayTurn (state_of c) a → IsGoing c a
+  is_going m = record { known = omega (arith, m.made, length-actors_of c.board.log 0 c.actors.items); going = m.going }
+
+module _ (c d : Core) (a : ℕ) (k : Kept (state_of c)) (g : IsGoing c a) (e : Event) (does : Does (state_of c) a e (state_of d)) where
+  kept_then : Kept (state_of d)
+  kept_then = subst Kept (sym does.is) (each_keeps e (state_of c) k a (actor_in (state_of c) a) (there c a g.known) g.going does.can)
+
+  made_then : (q : Actor) × (slice_get (after (state_of c) a (actor_in (state_of c) a) e).actors a ≡ Some q)
+  made_then = let m = mine (state_of c) k a (actor_in (state_of c) a) (there c a g.known) e does.can in (m.0, m.1)
+
+  in_then : actor_in (state_of d) a ≡ made_then.0
+  in_then = ap (λ (s : State). actor_in s a) does.is ∙ get_or_from_slice_get (after (state_of c) a (actor_in (state_of c) a) e).actors a made_then.0 first_actor made_then.1
+
+  -- the state that it leads to is kept, and the actor may have its turn still
+  pub stays : Kept (state_of d) × IsGoing d a
+  stays = (
+    kept_then,
+    is_going d a (record {
+      made = subst (λ (s : State). a < length s.actors) (sym does.is) (slice_get_within (after (state_of c) a (actor_in (state_of c) a) e).actors a made_then.0 made_then.1);
+      going = ap (λ (x : Actor). x.ended) in_then ∙ goes_on (state_of c) k a (actor_in (state_of c) a) (there c a g.known) g.going e does.can made_then.0 made_then.1;
+    }),
+  )
+
+  -- that was one section
+  pub one_section : Section (solo_of c a) (solo_of d a)
+  one_section = inr (refl, record { actor = actor_in (state_of c) a; there = there c a g.known; going = g.going; event = e; can = does.can; is = does.is })
+
+  -- a law of the event's effects on views holds
+  pub follows : (relation : State → View → View → Type 0) → Makes e relation → relation (state_of c) (view_of (solo_of c a)) (view_of (solo_of d a))
+  follows relation law =
+      let r : Actor = actor_in (state_of c) a in
+      let now : slice_get (after (state_of c) a r e).actors a ≡ Some (actor_in (after (state_of c) a r e) a) =
+      made_then.1 ∙ ap Some (sym (get_or_from_slice_get (after (state_of c) a r e).actors a made_then.0 first_actor made_then.1)) in
+      subst (λ (s : State). relation (state_of c) (view_of (solo_of c a)) (view_of (record { state = s; turn = a }))) (sym does.is)
+      (law (state_of c) k a r (actor_in (after (state_of c) a r e) a) (there c a g.known) g.going does.can now)

@@ -1,0 +1,36 @@
+-- A core in the turn of one of its actors.
+use Rattle.std.specs.Prelude.{◌≡◌, ◌<◌, ◌⊎◌, ℕ, length, false, Option, Some, None}
+use Rattle.std.proofs.Common.{inl, refl}
+use Rattle.mi_core.specs.Events.{Leads}
+use Rattle.mi_core.specs.State.{State}
+use Rattle.mi_page.specs.Nodes.{Node}
+use Rattle.mi_solo.specs.States.{actor_in}
+use Rattle.mi_solo.specs.Viewing.{shown_to}
+use Rattle.mi_world.specs.View.{View}
+
+-- a state, and the actor whose turn it is
+pub record SoloState : Type 0 where
+  pub state : State
+  pub turn : ℕ
+
+-- the view of the actor whose turn it is
+abbrev pub view_of : SoloState → View
+view_of t = shown_to t.state t.turn (actor_in t.state t.turn)
+
+-- the actor was made, and hasn't ended
+pub record MayTurn (s : State) (a : ℕ) : Type 0 where
+  pub made : a < length s.actors
+  pub going : (actor_in s a).ended ≡ false
+
+-- at most one event of the actor whose turn it is leads from the one to the other, and the turn stays
+abbrev pub Section : SoloState → SoloState → Type 0
+Section old new = (new ≡ old) ⊎ ((new.turn ≡ old.turn) × Leads old.state old.turn new.state)
+
+-- no event is at most one
+pub section_none : (t : SoloState) → Section t t
+section_none t = inl refl
+
+-- how many entries a page has, where it is linked
+abbrev pub entries_on : Option Node → ℕ
+entries_on None = 0
+entries_on (Some n) = length n.entries
