@@ -4,3 +4,5 @@ pub mod InsertLemmas
 pub mod JobLemmas
 pub mod OthersLemmas
 pub mod RangeLemmas
+pub mod RefusedLemmas
+pub mod WantingLemmas

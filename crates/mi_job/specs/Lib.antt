@@ -2,3 +2,4 @@ pub mod Caring
 pub mod Claims
 pub mod Inserts
 pub mod Jobs
+pub mod Wanting

@@ -1,5 +1,5 @@
 //! What is true of jobs and of the splitter at every view. The functions do nothing.
-ghost use Rattle.std.specs.Prelude.{◌≡◌, ◌≤◌, ◌<◌, ◌+◌, ℕ, Bool, List, None, length};
+ghost use Rattle.std.specs.Prelude.{◌≡◌, ◌≤◌, ◌<◌, ◌+◌, ◌⊎◌, ℕ, Bool, List, None, Some, true, length};
 ghost use Rattle.mi_base.specs.declared.records.Op.{Op as AnOp};
 ghost use Rattle.mi_base.specs.declared.records.Reply.{Reply as AReply};
 ghost use Rattle.mi_base.specs.Configuration.{metric_space, space_of};
@@ -18,6 +18,7 @@ ghost use Rattle.mi_job.specs.declared.turns.JobTurn.TheVariants.{Done, Held, Mo
 ghost use Rattle.mi_job.specs.Caring as caring;
 ghost use Rattle.mi_job.specs.Claims.{ClaimsNone};
 ghost use Rattle.mi_job.specs.Jobs.{Begun, Ended, Ready, Since, Ticked, Ticks, Turned, asked, job_most, left, op_number, since_in};
+ghost use Rattle.mi_job.specs.Wanting.{IsRefused, LacksRoom, is_no_pages, lacks, wants};
 
 /// A job is ready where its actor claims nothing, if its operation fits and was measured for these settings.
 pub fn jobs_begin()
@@ -50,6 +51,15 @@ pub fn jobs_end()
     ensures ended { (own : List Entered) (from : ℕ) (owed : ℕ → Bool) (early : Bool) (old new : AJob) (v w : View) (y : AReply)
         → Turned old v (Done y) new w → Since own from owed early old v → Ended (asked old) (op_number old) own from owed early w y }
     ensures works { (first : ℕ) (old new : AJob) (v w : View) (k n : ℕ) (y : AReply) → Turned old v (Done y) new w → Ticks old k (Done y) new n → Ticked first old k → Works first y n }
+{}
+
+/// A page is wanted only for a leaf page that was found full, with none in hand. An insert is answered that there are no pages exactly where the
+/// page that it wanted, or that its split did, was refused since all are allotted.
+pub fn pages_are_wanted()
+    ensures full { (old new : AJob) (v w : View) (answer : ATurn) (page : ℕ) → Turned old v answer new w → wants new.operation ≡ Some page → LacksRoom w page }
+    ensures refused { (old new : AJob) (v w : View) (answer : ATurn) → Ready old v → Turned old v answer new w → lacks new.operation ≡ true
+        → (lacks old.operation ≡ true) ⊎ IsRefused old.operation w }
+    ensures told { (old new : AJob) (v w : View) (y : AReply) → Turned old v (Done y) new w → is_no_pages y ≡ lacks old.operation }
 {}
 
 /// A job has so many sections at most while the budget stays.
