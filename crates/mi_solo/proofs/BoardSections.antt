@@ -1,5 +1,5 @@
 -- What sections of the board make of the state.
-use Rattle.std.proofs.Common.{◌≡◌, ◌≢◌, ℕ, ◌+◌, ◌<◌, List, [], ◌∷◌, length, get_or, set, Bool, true, false, IsTrue, refl, sym, ap, ◌∙◌, subst, arith, Option, Some, None}
+use Rattle.std.proofs.Common.{◌≡◌, ◌≢◌, ℕ, ◌+◌, ◌<◌, List, [], ◌∷◌, length, get_or, set, Bool, true, false, IsTrue, refl, sym, ap, ◌∙◌, subst, arith, Option, Some, None, Ok, Err}
 use Rattle.std.specs.Arc.{arc_value}
 use Rattle.std.proofs.lemmas.Bool.{false≢true}
 use Rattle.mi_base.specs.Permutations.{begins}
@@ -13,7 +13,10 @@ use Rattle.mi_core.specs.Kept.{Kept}
 use Rattle.mi_core.specs.State.{State}
 use Rattle.mi_entries.specs.Actors.{Actor}
 use Rattle.mi_base.specs.History.{end_of}
+use Rattle.mi_tree.specs.declared.answers.AllotRefusal.TheVariants.{PagesFull, Memory}
 use Rattle.mi_tree.specs.declared.answers.LeafClaim.{LeafClaim}
+use Rattle.mi_solo.specs.Hands.{TakesPage}
+use Rattle.mi_solo.specs.InHand.{InHand}
 use Rattle.mi_tree.specs.declared.answers.LeafClaim.TheVariants.{Taken, Held}
 use Rattle.mi_tree.specs.declared.answers.Look.{Look}
 use Rattle.mi_tree.specs.declared.outcomes.Leaf.{Leaf}
@@ -22,7 +25,7 @@ use Rattle.mi_tree.specs.Legal.{cells_of}
 use Rattle.mi_solo.specs.declared.cores.Core.{Core}
 use Rattle.mi_solo.specs.declared.rows.ActorRow.{ActorRow}
 use Rattle.mi_solo.specs.declared.rows.PinRow.{PinRow}
-use Rattle.mi_solo.specs.Sections.{ClaimsLeaf, Pins}
+use Rattle.mi_solo.specs.Sections.{Allots, ClaimsLeaf}
 use Rattle.mi_solo.specs.States.{Does, IsGoing, actor_in, actor_of, actors_of, pin_of, state_of}
 use Rattle.mi_solo.proofs.CoreLemmas.{comes_to, floor_is, log_of, on_board, suits}
 
@@ -81,3 +84,29 @@ module _ (c : Core) (a : ℕ) (known : a < length c.actors.items) (row : ActorRo
         },
         told,
       )
+
+  -- a page is taken in hand
+  pub page_taken : (actor_in (state_of c) a).fresh ≡ None → (held : InHand) → TakesPage c.board row.hand (Ok tt) b held → new ≡ record row { seen = length b.log; hand = held } → Allots (state_of c) a (Ok tt) then
+  page_taken free held told e =
+      let to = record c.board { allotted = c.board.allotted + 1 } in
+      record {
+        can = (free, told.0);
+        is = comes_to c a known row at b to told.1 (λ m n. refl) c.shards.items c.shards.items refl c.pages.items c.pages.items refl new (λ (r : Actor). record (saw c.board r) { fresh = Some c.board.allotted })
+          (ap (actor_of c.board.log a) e ∙ log_of c.board.log b to told.1 a (λ n. record row { seen = n; hand = held }) ∙ ap (λ h. actor_of c.board.log a (record row { seen = length c.board.log; hand = h })) told.2);
+      }
+
+  pub pages_refused : (limit : ℕ) (held : InHand) → TakesPage c.board row.hand (Err (PagesFull limit)) b held → new ≡ record row { seen = length b.log; hand = held } → Allots (state_of c) a (Err (PagesFull limit)) then
+  pages_refused limit held told e =
+      ( record {
+          can = told.1 ∙ told.0;
+          is = comes_to c a known row at b c.board told.2 (λ m n. refl) c.shards.items c.shards.items refl c.pages.items c.pages.items refl new (saw c.board)
+            (ap (actor_of c.board.log a) e ∙ log_of c.board.log b c.board told.2 a (λ n. record row { seen = n; hand = held }) ∙ ap (λ h. actor_of c.board.log a (record row { seen = length c.board.log; hand = h })) told.3);
+        }
+      , told.0)
+
+  pub page_lacked : (actor_in (state_of c) a).fresh ≡ None → (held : InHand) → TakesPage c.board row.hand (Err Memory) b held → new ≡ record row { seen = length b.log; hand = held; lacked = true } → Allots (state_of c) a (Err Memory) then
+  page_lacked free held told e = record {
+    can = free;
+    is = comes_to c a known row at b c.board told.0 (λ m n. refl) c.shards.items c.shards.items refl c.pages.items c.pages.items refl new (λ (r : Actor). record (saw c.board r) { lacked = true })
+      (ap (actor_of c.board.log a) e ∙ log_of c.board.log b c.board told.0 a (λ n. record row { seen = n; hand = held; lacked = true }) ∙ ap (λ h. actor_of c.board.log a (record row { seen = length c.board.log; hand = h; lacked = true })) told.1);
+  }

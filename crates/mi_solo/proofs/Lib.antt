@@ -29,3 +29,4 @@ pub mod CopyEvents
 pub mod SweepEvents
 pub mod KeyLemmas
 pub mod SoloLemmas
+pub mod PageLemmas

@@ -6,12 +6,17 @@ use Rattle.mi_base.specs.Permutations.{begins}
 use Rattle.mi_board.specs.Actors.{with_reserved}
 use Rattle.mi_board.specs.Boards.{BoardState, HasRoom, IsFull, look_of, with_actor}
 use Rattle.mi_core.specs.Events.{hand, leaf_or}
-use Rattle.mi_core.specs.Events.Event.{claim_leaf, claim_shard, miss_shard, pin, refuse, reserve, see}
-use Rattle.mi_core.specs.Refusals.Refusal.{full, held}
+use Rattle.mi_core.specs.Events.Event.{allot, claim_leaf, claim_shard, lack, miss_shard, pin, refuse, reserve, see, trim, visit}
+use Rattle.mi_core.specs.Refusals.Refusal.{full, held, pages_full}
 use Rattle.mi_core.specs.State.{State}
 use Rattle.mi_entries.specs.Records.{Rows, Shard, held_by, home, shard_at}
-use Rattle.mi_solo.specs.States.{Does, actor_in}
+use Rattle.mi_solo.specs.States.{Does, actor_in, node_in}
 use Rattle.mi_solo.specs.Viewing.{record_shown}
+use Rattle.mi_key.specs.declared.ranges.Interval.{Interval}
+use Rattle.mi_entries.specs.Actors.{Pin}
+use Rattle.mi_solo.specs.Seeking.{AnswersVisit}
+use Rattle.mi_tree.specs.declared.answers.AllotRefusal.{AllotRefusal}
+use Rattle.mi_tree.specs.declared.answers.AllotRefusal.TheVariants as allots
 use Rattle.mi_tree.specs.declared.answers.LeafClaim.{LeafClaim}
 use Rattle.mi_tree.specs.declared.answers.LeafClaim.TheVariants.{Taken as LeafTaken, Held as LeafHeld}
 use Rattle.mi_tree.specs.declared.answers.Look.{Look}
@@ -20,6 +25,8 @@ use Rattle.mi_tree.specs.declared.answers.ReserveRefusal.TheVariants as refused
 use Rattle.mi_tree.specs.Counting.{leaves_beginning}
 use Rattle.mi_tree.specs.Legal.{cells_of}
 use Rattle.mi_world.specs.declared.answers.ShardClaim.{ShardClaim}
+use Rattle.mi_world.specs.declared.answers.Visit.{Visit}
+use Rattle.mi_world.specs.declared.answers.Visit.TheVariants.{Down, Right, Read}
 use Rattle.mi_world.specs.declared.answers.ShardClaim.TheVariants.{Taken as ShardTaken, Held as ShardHeld}
 
 -- the shard that an actor holds, and the leaf that it claims
@@ -62,3 +69,25 @@ ClaimsLeaf s a perm (LeafHeld by) t = (leaf : List ℕ) × Does s a (refuse (hel
 abbrev pub Pins : State → ℕ → Result Look NoMemory → State → Type 0
 Pins s a (Ok look) t = Does s a pin t × (look ≡ look_of t.board)
 Pins s a (Err e) t = Does s a see t
+
+-- a page is taken in hand, or all are allotted, or memory is wanted
+abbrev pub Allots : State → ℕ → Result (Unit {0}) AllotRefusal → State → Type 0
+Allots s a (Ok _) t = Does s a allot t
+Allots s a (Err (allots.PagesFull limit)) t = Does s a (refuse pages_full) t × (limit ≡ s.board.settings.pages)
+Allots s a (Err allots.Memory) t = Does s a lack t
+
+-- a page is read, or the way goes on at another
+pub record Visits (s : State) (a page : ℕ) (range : Interval) (result : Visit) (t : State) : Type 0 where
+  pub does : Does s a (visit page) t
+  pub answer : AnswersVisit (node_in s page) range result
+
+-- how many updates are pinned
+abbrev pub updates_pinned : Option Pin → ℕ
+updates_pinned None = 0
+updates_pinned (Some p) = p.at.updates
+
+-- a leaf page is trimmed, and its right sibling is named
+abbrev pub Trims : State → ℕ → ℕ → Visit → State → Type 0
+Trims s a page (Down p) t = ⊥
+Trims s a page (Right p) t = ⊥
+Trims s a page (Read next) t = Does s a (trim page (node_in s page)) t × (next ≡ (node_in s page).right)

@@ -1,14 +1,17 @@
 -- The state that a core stands for, and what one section of an actor makes of it.
-use Rattle.std.specs.Prelude.{◌≡◌, ◌<◌, ℕ, ◌+◌, List, [], ◌∷◌, false, length, map, Option, Some, None, slice_index_or}
+use Rattle.std.specs.Prelude.{◌≡◌, ◌<◌, ℕ, ◌+◌, List, [], ◌∷◌, Bool, false, is_some, length, Option, Some, None, slice_index_or}
 use Rattle.std.specs.Arc.{arc_value}
 use Rattle.mi_base.specs.declared.records.LogEvent.{LogEvent}
 use Rattle.mi_core.specs.Actors.{made_by}
 use Rattle.mi_core.specs.Events.{Can, Event, after, first_actor}
-use Rattle.mi_core.specs.State.{State}
-use Rattle.mi_entries.specs.Actors.{Actor, Owed, Pin, SplitWork, SweepWork}
+use Rattle.mi_core.specs.Pages.{node_or_fresh}
+use Rattle.mi_core.specs.State.{State, node_at}
+use Rattle.mi_page.specs.Nodes.{Node}
+use Rattle.mi_solo.specs.Viewing.{shown_to}
+use Rattle.mi_world.specs.View.{View}
+use Rattle.mi_entries.specs.Actors.{Actor, Pin, SplitWork, SweepWork}
 use Rattle.mi_solo.specs.declared.cores.Core.{Core}
 use Rattle.mi_solo.specs.declared.rows.ActorRow.{ActorRow}
-use Rattle.mi_solo.specs.declared.rows.OwedRow.{OwedRow}
 use Rattle.mi_solo.specs.declared.rows.PinRow.{PinRow}
 use Rattle.mi_solo.specs.declared.rows.SplitRow.{SplitRow}
 use Rattle.mi_solo.specs.declared.rows.SweepRow.{SweepRow}
@@ -26,9 +29,6 @@ abbrev pub sweep_of : Option SweepRow → Option SweepWork
 sweep_of None = None
 sweep_of (Some w) = Some (record { leaf = w.leaf; mark = w.mark })
 
-abbrev pub owed_of : OwedRow → Owed
-owed_of o = record { level = o.level; key = o.key; child = o.child }
-
 -- the record of the actor of a number: its own updates are those that the log has of it
 abbrev pub actor_of : List LogEvent → ℕ → ActorRow → Actor
 actor_of log a r = record {
@@ -42,8 +42,8 @@ actor_of log a r = record {
   sweep = sweep_of r.sweep;
   pin = pin_of r.pin;
   split = split_of r.split;
-  fresh = r.fresh;
-  owed = map owed_of r.owed.items;
+  fresh = r.hand.fresh;
+  owed = r.hand.owed;
   page = r.page;
   tried = r.tried;
   found = r.found;
@@ -64,6 +64,17 @@ state_of c = record { board = c.board; shards = c.shards.items; pages = c.pages.
 -- the record of an actor
 abbrev pub actor_in : State → ℕ → Actor
 actor_in s a = slice_index_or s.actors a first_actor
+
+-- an actor's view
+abbrev pub view_in : State → ℕ → View
+view_in s a = shown_to s a (actor_in s a)
+
+-- a page, and whether it is linked
+abbrev pub node_in : State → ℕ → Node
+node_in s page = node_or_fresh (node_at s.pages page)
+
+abbrev pub is_linked : State → ℕ → Bool
+is_linked s page = is_some (node_at s.pages page)
 
 -- the actor was made, and hasn't ended
 pub record IsGoing (c : Core) (a : ℕ) : Type 0 where

@@ -1,15 +1,15 @@
 //! Sections of the board.
-ghost use Rattle.std.specs.Prelude.{◌≡◌, None, IsSome, length};
+ghost use Rattle.std.specs.Prelude.{◌≡◌, ◌<◌, None, IsSome, is_some, length};
 ghost use Rattle.mi_board.specs.Boards.{look_of};
 ghost use Rattle.mi_core.specs.Events.Event.{look, release_leaf, unpin};
 ghost use Rattle.mi_core.specs.Kept.{Kept};
-ghost use Rattle.mi_solo.specs.Sections.{ClaimsLeaf, Pins, Reserves};
+ghost use Rattle.mi_solo.specs.Sections.{Allots, ClaimsLeaf, Pins, Reserves};
 ghost use Rattle.mi_solo.specs.States.{Does, IsGoing, actor_in, state_of};
 
 use crate::cores::Core;
 use crate::rows::PinRow;
 use mi_base::{NoMemory, Perm, Steps};
-use mi_tree::{LeafClaim, Look, ReserveRefusal};
+use mi_tree::{AllotRefusal, LeafClaim, Look, ReserveRefusal};
 use std::alloc::Global;
 use std::sync::ledger::Ledger;
 
@@ -113,5 +113,44 @@ impl Core {
     {
         self.board.unpin(actor);
         self.actors[actor as usize].unpin(&self.board);
+    }
+
+    /// A fresh page is in the actor's hand.
+    pub fn fresh(&self, actor: u32) -> bool
+        requires { actor < length self.now.actors.items }
+        ensures { result ≡ is_some (actor_in (state_of self.now) actor).fresh }
+    {
+        self.actors[actor as usize].hand.has_fresh()
+    }
+
+    /// Memory was wanted for a page.
+    pub fn lacked(&self, actor: u32) -> bool
+        requires { actor < length self.now.actors.items }
+        ensures { result ≡ (actor_in (state_of self.now) actor).lacked }
+    {
+        self.actors[actor as usize].lacked
+    }
+
+    /// Takes a fresh page in hand.
+    pub fn allot(&mut self, alloc: Global, actor: u32) -> Result<(), AllotRefusal>
+        requires going { IsGoing self.old actor }
+        requires free { (actor_in (state_of self.old) actor).fresh ≡ None }
+        ensures { Allots (state_of self.old) actor result (state_of self.new) }
+    {
+        let me = &mut self.actors[actor as usize];
+        match me.hand.allot(alloc, &mut self.board) {
+            Ok(()) => {
+                me.see(&self.board);
+                Ok(())
+            }
+            Err(AllotRefusal::PagesFull { limit }) => {
+                me.see(&self.board);
+                Err(AllotRefusal::PagesFull { limit })
+            }
+            Err(AllotRefusal::Memory) => {
+                me.lack(&self.board);
+                Err(AllotRefusal::Memory)
+            }
+        }
     }
 }

@@ -4,8 +4,11 @@
 mod board_sections;
 mod boards;
 mod cores;
+mod hands;
+mod page_sections;
 mod pages;
 mod rows;
+mod seeking;
 mod shard_sections;
 mod shards;
 mod solo;

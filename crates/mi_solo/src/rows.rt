@@ -4,10 +4,10 @@ ghost use Rattle.mi_board.specs.Boards.{floor_of};
 ghost use Rattle.mi_core.specs.Events.{first_actor};
 ghost use Rattle.mi_solo.specs.States.{actor_of};
 
+use crate::hands::Hand;
 use mi_base::{Position, Prefix};
 use mi_board::Board;
 use mi_key::{Entry, Key};
-use mi_page::Page;
 use mi_tree::Catalog;
 use std::alloc::Global;
 use std::marker::Model;
@@ -36,32 +36,6 @@ pub struct SweepRow {
     pub mark: Key,
 }
 
-/// A route that its actor has yet to post.
-#[derive(Drop)]
-pub struct OwedRow {
-    pub level: u32,
-    pub key: Key,
-    pub child: u32,
-}
-
-/// A page that is allotted and linked nowhere, with its number.
-#[derive(Drop)]
-pub struct FreshPage {
-    number: u32,
-    page: Page,
-}
-
-impl Model for FreshPage {
-    ghost use Rattle.std.specs.Prelude.{◌≡◌, ℕ};
-    ghost use Rattle.mi_page.specs.Nodes.{fresh_node};
-
-    ghost Value = { ℕ };
-
-    ghost view = { λ f. f.number };
-
-    ghost invariant = { λ f. f.page ≡ fresh_node };
-}
-
 /// What is known of one actor. Its own updates are those that the log has of it.
 #[derive(Drop)]
 pub struct ActorRow {
@@ -74,8 +48,7 @@ pub struct ActorRow {
     pub sweep: Option<SweepRow>,
     pub pin: Option<PinRow>,
     pub split: Option<SplitRow>,
-    pub fresh: Option<FreshPage>,
-    pub owed: Vec<OwedRow>,
+    pub hand: Hand,
     pub page: u32,
     pub tried: u32,
     pub found: Option<u32>,
@@ -103,8 +76,7 @@ impl ActorRow {
             sweep: None,
             pin: None,
             split: None,
-            fresh: None,
-            owed: Vec::new(alloc),
+            hand: Hand::empty(alloc),
             page: 0,
             tried: 0,
             found: None,
@@ -197,5 +169,28 @@ impl ActorRow {
     {
         self.see(board);
         self.pin = None;
+    }
+
+    /// It has made a section of the page.
+    pub fn note(&mut self, page: u32)
+        ensures { self.new ≡ record self.old { page = page } }
+    {
+        self.page = page;
+    }
+
+    /// It has made a section of the page and of the board.
+    pub fn meet(&mut self, board: &Board, page: u32)
+        ensures { self.new ≡ record self.old { seen = length board.now.log; page = page } }
+    {
+        self.see(board);
+        self.page = page;
+    }
+
+    /// It wanted memory for a page.
+    pub fn lack(&mut self, board: &Board)
+        ensures { self.new ≡ record self.old { seen = length board.now.log; lacked = true } }
+    {
+        self.see(board);
+        self.lacked = true;
     }
 }
