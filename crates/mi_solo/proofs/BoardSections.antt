@@ -92,21 +92,22 @@ module _ (c : Core) (a : ℕ) (known : a < length c.actors.items) (row : ActorRo
       record {
         can = (free, told.0);
         is = comes_to c a known row at b to told.1 (λ m n. refl) c.shards.items c.shards.items refl c.pages.items c.pages.items refl new (λ (r : Actor). record (saw c.board r) { fresh = Some c.board.allotted })
-          (ap (actor_of c.board.log a) e ∙ log_of c.board.log b to told.1 a (λ n. record row { seen = n; hand = held }) ∙ ap (λ h. actor_of c.board.log a (record row { seen = length c.board.log; hand = h })) told.2);
+            (ap (actor_of c.board.log a) e ∙ log_of c.board.log b to told.1 a (λ n. record row { seen = n; hand = held }) ∙ ap (λ h. actor_of c.board.log a (record row { seen = length c.board.log; hand = h })) told.2);
       }
 
   pub pages_refused : (limit : ℕ) (held : InHand) → TakesPage c.board row.hand (Err (PagesFull limit)) b held → new ≡ record row { seen = length b.log; hand = held } → Allots (state_of c) a (Err (PagesFull limit)) then
-  pages_refused limit held told e =
-      ( record {
-          can = told.1 ∙ told.0;
-          is = comes_to c a known row at b c.board told.2 (λ m n. refl) c.shards.items c.shards.items refl c.pages.items c.pages.items refl new (saw c.board)
-            (ap (actor_of c.board.log a) e ∙ log_of c.board.log b c.board told.2 a (λ n. record row { seen = n; hand = held }) ∙ ap (λ h. actor_of c.board.log a (record row { seen = length c.board.log; hand = h })) told.3);
-        }
-      , told.0)
+  pages_refused limit held told e = (
+    record {
+      can = told.1 ∙ told.0;
+      is = comes_to c a known row at b c.board told.2 (λ m n. refl) c.shards.items c.shards.items refl c.pages.items c.pages.items refl new (saw c.board)
+          (ap (actor_of c.board.log a) e ∙ log_of c.board.log b c.board told.2 a (λ n. record row { seen = n; hand = held }) ∙ ap (λ h. actor_of c.board.log a (record row { seen = length c.board.log; hand = h })) told.3);
+    },
+    told.0,
+  )
 
   pub page_lacked : (actor_in (state_of c) a).fresh ≡ None → (held : InHand) → TakesPage c.board row.hand (Err Memory) b held → new ≡ record row { seen = length b.log; hand = held; lacked = true } → Allots (state_of c) a (Err Memory) then
   page_lacked free held told e = record {
     can = free;
     is = comes_to c a known row at b c.board told.0 (λ m n. refl) c.shards.items c.shards.items refl c.pages.items c.pages.items refl new (λ (r : Actor). record (saw c.board r) { lacked = true })
-      (ap (actor_of c.board.log a) e ∙ log_of c.board.log b c.board told.0 a (λ n. record row { seen = n; hand = held; lacked = true }) ∙ ap (λ h. actor_of c.board.log a (record row { seen = length c.board.log; hand = h; lacked = true })) told.1);
+        (ap (actor_of c.board.log a) e ∙ log_of c.board.log b c.board told.0 a (λ n. record row { seen = n; hand = held; lacked = true }) ∙ ap (λ h. actor_of c.board.log a (record row { seen = length c.board.log; hand = h; lacked = true })) told.1);
   }

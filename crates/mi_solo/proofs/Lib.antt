@@ -30,3 +30,4 @@ pub mod SweepEvents
 pub mod KeyLemmas
 pub mod SoloLemmas
 pub mod PageLemmas
+pub mod InsertSection

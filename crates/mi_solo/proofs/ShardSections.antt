@@ -24,7 +24,7 @@ use Rattle.mi_solo.specs.Viewing.{record_shown}
 use Rattle.mi_solo.proofs.CoreLemmas.{comes_to, log_of, read_is, some_of}
 
 -- what was read is written again
-set_read : {X : Type 0} (xs : List X) (i : ℕ) (x : X) → x ≡ get_or xs i x → set xs i x ≡ xs
+pub set_read : {X : Type 0} (xs : List X) (i : ℕ) (x : X) → x ≡ get_or xs i x → set xs i x ≡ xs
 set_read xs i x e = ap (set xs i) e ∙ set-get_or xs i x
 
 module _ (c : Core) (a : ℕ) (known : a < length c.actors.items) (kept : Kept (state_of c)) (row : ActorRow) (at : row ≡ get_or c.actors.items a row) (new : ActorRow) (k : ℕ) (low : k < length c.shards.items) where

@@ -1,20 +1,20 @@
 -- What each section does, told by cases on what it answers.
-use Rattle.std.specs.Prelude.{◌≡◌, ◌+◌, ◌==◌, ◌<◌, ℕ, List, [], ◌∷◌, true, length, Option, Some, None, Result, Ok, Err}
+use Rattle.std.specs.Prelude.{◌≡◌, ◌+◌, ◌==◌, ◌<◌, ℕ, ℤ, List, [], ◌∷◌, true, false, length, Option, Some, None, Result, Ok, Err}
 use Rattle.std.specs.List.{find}
 use Rattle.mi_base.specs.declared.refusals.NoMemory.{NoMemory}
 use Rattle.mi_base.specs.Permutations.{begins}
 use Rattle.mi_board.specs.Actors.{with_reserved}
-use Rattle.mi_board.specs.Boards.{BoardState, HasRoom, IsFull, look_of, with_actor}
+use Rattle.mi_board.specs.Boards.{BoardState, HasRoom, crowded_at, IsFull, look_of, with_actor}
 use Rattle.mi_core.specs.Events.{hand, leaf_or}
-use Rattle.mi_core.specs.Events.Event.{allot, claim_leaf, claim_shard, lack, miss_shard, pin, refuse, reserve, see, trim, visit}
-use Rattle.mi_core.specs.Refusals.Refusal.{full, held, pages_full}
+use Rattle.mi_core.specs.Events.Event.{allot, claim_leaf, insert, meet, refuse_at, claim_shard, lack, miss_shard, pin, refuse, reserve, see, trim, visit}
+use Rattle.mi_core.specs.Refusals.Refusal.{crowded, full, held, page_full, pages_full}
 use Rattle.mi_core.specs.State.{State}
 use Rattle.mi_entries.specs.Records.{Rows, Shard, held_by, home, shard_at}
-use Rattle.mi_solo.specs.States.{Does, actor_in, node_in}
+use Rattle.mi_solo.specs.States.{Does, actor_in, node_in, view_in}
 use Rattle.mi_solo.specs.Viewing.{record_shown}
 use Rattle.mi_key.specs.declared.ranges.Interval.{Interval}
 use Rattle.mi_entries.specs.Actors.{Pin}
-use Rattle.mi_solo.specs.Seeking.{AnswersVisit}
+use Rattle.mi_solo.specs.Seeking.{AnswersVisit, EndsAfter, PointsDown, PointsRight}
 use Rattle.mi_tree.specs.declared.answers.AllotRefusal.{AllotRefusal}
 use Rattle.mi_tree.specs.declared.answers.AllotRefusal.TheVariants as allots
 use Rattle.mi_tree.specs.declared.answers.LeafClaim.{LeafClaim}
@@ -25,6 +25,11 @@ use Rattle.mi_tree.specs.declared.answers.ReserveRefusal.TheVariants as refused
 use Rattle.mi_tree.specs.Counting.{leaves_beginning}
 use Rattle.mi_tree.specs.Legal.{cells_of}
 use Rattle.mi_world.specs.declared.answers.ShardClaim.{ShardClaim}
+use Rattle.mi_entries.specs.Entries.{grid}
+use Rattle.mi_key.specs.declared.entries.Entry.{Entry}
+use Rattle.mi_world.specs.declared.answers.Commit.{Commit}
+use Rattle.mi_world.specs.declared.answers.Commit.TheVariants as commit
+use Rattle.mi_world.specs.Pages.{insert_key, next_number}
 use Rattle.mi_world.specs.declared.answers.Visit.{Visit}
 use Rattle.mi_world.specs.declared.answers.Visit.TheVariants.{Down, Right, Read}
 use Rattle.mi_world.specs.declared.answers.ShardClaim.TheVariants.{Taken as ShardTaken, Held as ShardHeld}
@@ -91,3 +96,20 @@ abbrev pub Trims : State → ℕ → ℕ → Visit → State → Type 0
 Trims s a page (Down p) t = ⊥
 Trims s a page (Right p) t = ⊥
 Trims s a page (Read next) t = Does s a (trim page (node_in s page)) t × (next ≡ (node_in s page).right)
+
+-- what comes where the key lies in the page
+abbrev pub EntersInsert : State → ℕ → ℕ → ℕ → ℕ → List ℤ → List ℕ → Commit → State → Type 0
+EntersInsert s a page op id vector dists (commit.Down p) t = ⊥
+EntersInsert s a page op id vector dists (commit.Right p) t = ⊥
+EntersInsert s a page op id vector dists (commit.Full limit) t = Does s a (refuse_at page full) t × (limit ≡ s.board.settings.updates)
+EntersInsert s a page op id vector dists commit.Crowded t = Does s a (refuse_at page (crowded vector)) t × HasRoom s.board
+EntersInsert s a page op id vector dists commit.PageFull t =
+    Does s a (refuse_at page (page_full page)) t × HasRoom s.board × (crowded_at s.board ((grid s.board.settings).perm vector) ≡ false)
+EntersInsert s a page op id vector dists (commit.Done number) t =
+    (e : Entry) × Does s a (insert op id page (node_in s page) (rows_at s (home id)) e) t × (e.vector ≡ vector) × (e.dists.items ≡ dists) × (e.birth ≡ number)
+
+-- Down, Right, Full, Crowded, PageFull, Done: each comes where none before it does
+abbrev pub CommitsInsert : State → ℕ → ℕ → ℕ → ℕ → List ℤ → List ℕ → Commit → State → Type 0
+CommitsInsert s a page op id vector dists (commit.Down p) t = Does s a (visit page) t × PointsDown (node_in s page) 0 (insert_key (view_in s a) dists id 0) p
+CommitsInsert s a page op id vector dists (commit.Right p) t = Does s a (meet page) t × PointsRight (node_in s page) 0 (insert_key (view_in s a) dists id (next_number (view_in s a))) p
+CommitsInsert s a page op id vector dists answer t = EndsAfter (node_in s page) 0 (insert_key (view_in s a) dists id (next_number (view_in s a))) × EntersInsert s a page op id vector dists answer t

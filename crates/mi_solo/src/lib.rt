@@ -5,6 +5,8 @@ mod board_sections;
 mod boards;
 mod cores;
 mod hands;
+mod insert_section;
+mod keying;
 mod page_sections;
 mod pages;
 mod rows;

@@ -193,4 +193,13 @@ impl ActorRow {
         self.see(board);
         self.lacked = true;
     }
+
+    /// It has committed an update at the page, which uses what it had reserved.
+    pub fn commit(&mut self, board: &Board, page: u32)
+        ensures { self.new ≡ record self.old { seen = length board.now.log; reserved = false; reserved_here = false; page = page } }
+    {
+        self.meet(board, page);
+        self.reserved = false;
+        self.reserved_here = false;
+    }
 }

@@ -1,7 +1,7 @@
 //! The records of live objects, in shards by identifier.
-ghost use Rattle.std.specs.Prelude.{◌≡◌, ◌<◌, ◌==◌, length};
-ghost use Rattle.std.specs.List.{find};
-ghost use Rattle.mi_entries.specs.Records.{held_by, no_shard};
+ghost use Rattle.std.specs.Prelude.{◌≡◌, ◌+◌, ◌<◌, ◌==◌, length, not, vec_capacity};
+ghost use Rattle.std.specs.List.{filter, find};
+ghost use Rattle.mi_entries.specs.Records.{held_by, no_shard, with_record, without_id};
 ghost use Rattle.mi_solo.specs.Sections.{Promises};
 ghost use Rattle.mi_solo.specs.Viewing.{record_shown};
 
@@ -100,6 +100,33 @@ impl ShardRow {
         self.room = self.records.len() + 1;
         Ok(look)
     }
+
+    /// Takes a record more, for which there is room. It takes no memory.
+    pub fn insert(&mut self, id: Id, birth: u32, dists: &Dists)
+        requires { length self.old.rows.records < self.old.rows.room }
+        ensures { self.new ≡ held_by self.old.holder (with_record (record { id = id; birth = birth; dists = dists.now.items }) self.old.rows) }
+    {
+        self.records.push_reserved(RecordRow {
+            id,
+            birth,
+            dists: copy_dists(dists),
+        });
+    }
+
+    /// Takes the record of the identifier out.
+    pub fn remove(&mut self, id: Id)
+        ensures { self.new ≡ held_by self.old.holder (without_id id self.old.rows) }
+    {
+        drop_record(&mut self.records, id);
+    }
+}
+
+/// All records but that of the identifier stay.
+fn drop_record(records: &mut Vec<RecordRow>, id: Id)
+    ensures items { records.new.items ≡ filter (λ y. not (y.id == id)) records.old.items }
+    ensures room { vec_capacity records.new ≡ vec_capacity records.old }
+{
+    records.retain(|row| row.id.get() != id.get());
 }
 
 /// The same distances again. It takes no memory.

@@ -17,11 +17,12 @@ returns c =
     let is = node_here s page c.requires.linked c.index_mut.result.now c.index_mut.ensures.value c.in-Some.node c.in-Some.is in
     let floor = ap (λ (r : Actor). r.floor.updates) (row_is s a c.requires.going.known c.index_mut-me.result.now c.index_mut-me.ensures.value) in
     let now : c.trim.new.self ≡ trim_node (actor_in (state_of s) a).floor.updates (node_in (state_of s) page) =
-        c.trim.ensures ∙ ap (λ f. trim_node f c.in-Some.node) (sym floor) ∙ ap (trim_node (actor_in (state_of s) a).floor.updates) (sym is) in
-    ( record {
+    c.trim.ensures ∙ ap (λ f. trim_node f c.in-Some.node) (sym floor) ∙ ap (trim_node (actor_in (state_of s) a).floor.updates) (sym is) in (
+      record {
         can = record { there = here ∙ ap Some (sym is); level = c.requires.leaf };
         is = comes_to s a c.requires.going.known c.index_mut-me.result.now c.index_mut-me.ensures.value s.board s.board refl (λ m n. refl) s.shards.items s.shards.items refl
-          (set s.pages.items page (Some c.trim.new.self)) (set s.pages.items page (Some (trim_node (actor_in (state_of s) a).floor.updates (node_in (state_of s) page)))) (ap (λ n. set s.pages.items page (Some n)) now)
-          c.note.new.self (noted page) (ap (actor_of s.board.log a) c.note.ensures);
-      }
-    , c.right.ensures ∙ ap (λ (n : Node). n.right) (c.trim.ensures ∙ ap (λ n. trim_node c.index_mut-me.result.now.floor.updates n) (sym is)))
+            (set s.pages.items page (Some c.trim.new.self)) (set s.pages.items page (Some (trim_node (actor_in (state_of s) a).floor.updates (node_in (state_of s) page)))) (ap (λ n. set s.pages.items page (Some n)) now)
+            c.note.new.self (noted page) (ap (actor_of s.board.log a) c.note.ensures);
+      },
+      c.right.ensures ∙ ap (λ (n : Node). n.right) (c.trim.ensures ∙ ap (λ n. trim_node c.index_mut-me.result.now.floor.updates n) (sym is)),
+    )

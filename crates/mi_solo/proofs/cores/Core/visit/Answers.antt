@@ -48,4 +48,4 @@ returns-clause-offered g c =
     let node_is = node_here s c.args.page c.requires.linked c.index.result.now c.index.ensures c.in-Some.node c.in-Some.is in
     let count = ap (λ (r : Actor). updates_pinned r.pin) (row_is s c.args.actor c.requires.going.known c.index-2.result.now c.index-2.ensures) ∙ ap (λ p. updates_pinned (pin_of p)) c.in-Some-pin.is in
     subst (λ n. g.S.Sieve.offered c.args.sieve.now (offered_of n c.args.range.now (updates_pinned (actor_in (state_of s) c.args.actor).pin) c.visit_page-answer.result) c.visit_page-answer.new.sieve) (sym node_is)
-      (subst (λ u. g.S.Sieve.offered c.args.sieve.now (offered_of c.in-Some.node c.args.range.now u c.visit_page-answer.result) c.visit_page-answer.new.sieve) (sym count) c.visit_page-answer.ensures.offered)
+    (subst (λ u. g.S.Sieve.offered c.args.sieve.now (offered_of c.in-Some.node c.args.range.now u c.visit_page-answer.result) c.visit_page-answer.new.sieve) (sym count) c.visit_page-answer.ensures.offered)
