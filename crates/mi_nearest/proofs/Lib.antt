@@ -1,7 +1,10 @@
 pub mod FewLemmas
 pub mod FirstLemmas
 pub mod HeapLemmas
+pub mod NextLemmas
+pub mod OthersLemmas
 pub mod PlaceLemmas
 pub mod RankLemmas
 pub mod ScanLemmas
+pub mod SectionLemmas
 pub mod WalkLemmas

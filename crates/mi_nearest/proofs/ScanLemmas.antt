@@ -8,7 +8,7 @@ use Rattle.std.proofs.lemmas.List.Sums.{sum_by-append, sum_by-cons}
 use Rattle.mi_base.specs.declared.records.LogEvent.{LogEvent}
 use Rattle.mi_base.specs.declared.records.Row.{Row}
 use Rattle.mi_base.specs.Configuration.{Configuration, IsWithinLimits, metric_space, space_of}
-use Rattle.mi_base.specs.History.{Object, live, nearest_scan, row_of, updates_of}
+use Rattle.mi_base.specs.History.{Object, live, row_of, updates_of}
 use Rattle.mi_base.specs.Permutations.{begins, distances}
 use Rattle.mi_base.specs.Prefixes.{all_below}
 use Rattle.mi_base.specs.Sorting.{Ascends, SameElements}

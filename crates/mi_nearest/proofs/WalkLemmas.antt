@@ -1,5 +1,5 @@
 -- A walk over ranked leaves that stops at the first whose bound is greater than the last row's distance.
-use Rattle.std.proofs.Common.{◌≡◌, ℕ, suc, zero, ◌+◌, ◌<◌, ◌≤◌, List, [], ◌∷◌, ◌++◌, length, Bool, true, false, cond, nat_le, nat_lt, refl, sym, ap, ◌∙◌, subst, arith, append-nil, length-append, zero-add, Option, Some, None}
+use Rattle.std.proofs.Common.{◌≡◌, ℕ, suc, ◌+◌, ◌<◌, ◌≤◌, List, [], ◌∷◌, ◌++◌, length, Bool, true, false, cond, nat_le, nat_lt, refl, sym, ap, ◌∙◌, subst, arith, append-nil, length-append, zero-add, Option, Some, None}
 use Rattle.std.specs.Prelude.{IfSome, is_some, slice_get, slice_index_or}
 use Rattle.std.specs.List.{AllByRecursion, filter, flat_map, sum_by}
 use Rattle.std.specs.Ordering.{is_lt, nat_cmp}

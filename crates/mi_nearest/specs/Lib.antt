@@ -2,3 +2,4 @@ pub mod Nearing
 pub mod Order
 pub mod Taking
 pub mod Walking
+pub mod Querying

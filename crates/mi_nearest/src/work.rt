@@ -1,16 +1,21 @@
 //! What a query for the nearest keeps of the entries that it is offered.
-ghost use Rattle.std.specs.Prelude.{◌≡◌, ◌↔◌, ◌+◌, ◌≤◌, [], ◌∷◌, IsSome, IsTrue, OnOk, OnErr, cond, length, take};
+ghost use Rattle.std.specs.Prelude.{◌≡◌, ◌↔◌, ◌+◌, ◌≤◌, [], ◌∷◌, ℕ, IfSome, IsSome, IsTrue, None, OnOk, OnErr, cond, length, take};
 ghost use Rattle.arrayvec.specs.ArrayVec.{array_vec_len};
 ghost use Rattle.mi_base.specs.History.{row_cmp};
 ghost use Rattle.mi_base.specs.Sorting.{put};
+ghost use Rattle.mi_base.specs.Prefixes.{all_below};
 ghost use Rattle.mi_key.specs.Entries.{offering_of};
+ghost use Rattle.mi_key.specs.Keys.{parts_of};
+ghost use Rattle.mi_key.specs.Ranges.{is_within};
+ghost use Rattle.mi_rules.specs.Spans.{is_near};
 ghost use Rattle.mi_rules.specs.Answers.{AreMeasured};
 ghost use Rattle.mi_nearest.specs.Nearing.{TakesNearest, may_be_near, stops_at, worst_of};
 
 use mi_base::{Dists, NoMemory, Position, Reply, Row, Rows, Steps, Vector};
-use mi_key::Entry;
+use mi_key::{Entry, Interval};
 use mi_metric::Metric;
-use mi_rules::filter;
+use mi_rules::{filter, near_span};
+use mi_tree::Leaf;
 use std::alloc::Global;
 use std::collections::BinaryHeap;
 use std::marker::Model;
@@ -116,6 +121,17 @@ impl NearestWork {
             None => false,
             Some(worst) => worst < bound,
         }
+    }
+
+    /// What is read of a leaf: what is near at the last row's distance, or all of its hull while there are too few rows.
+    pub(crate) fn span(&self, leaf: &Leaf, levels: u32) -> Option<Interval>
+        requires pivots { IsTrue (all_below (length self.now.dists) leaf.now.prefix) }
+        requires depth { length leaf.now.prefix ≤ levels }
+        requires levels { levels ≤ 6 }
+        ensures none { (result ≡ None) ↔ (leaf.now.hull ≡ None) }
+        ensures some { IfSome result (λ span. IfSome leaf.now.hull (λ hull. (key : ℕ) → is_within span key ≡ is_near self.now.dists (worst_of self.now) levels leaf.now.prefix hull (parts_of key))) }
+    {
+        near_span(leaf, &self.dists, self.worst(), levels)
     }
 
     /// The answer with its rows in their order. It takes no memory.
