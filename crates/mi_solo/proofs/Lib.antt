@@ -31,3 +31,6 @@ pub mod KeyLemmas
 pub mod SoloLemmas
 pub mod PageLemmas
 pub mod InsertSection
+pub mod WorkSections
+pub mod WayLemmas
+pub mod SweepSections

@@ -3,6 +3,7 @@
 
 mod board_sections;
 mod boards;
+mod cell_keys;
 mod cores;
 mod hands;
 mod insert_section;
@@ -14,8 +15,11 @@ mod seeking;
 mod shard_sections;
 mod shards;
 mod solo;
+mod split_sections;
 mod splits;
+mod sweep_sections;
 mod views;
+mod work_rows;
 
 pub use boards::{
     claims_follow, looks_follow, pages_are_allotted, pins_follow, reservations_follow,

@@ -1,0 +1,55 @@
+//! What the sections of splits and sweeps change in an actor's row.
+ghost use Rattle.std.specs.Prelude.{◌≡◌, Some, None, length};
+ghost use Rattle.mi_solo.specs.WorkRows.{swept_row};
+
+use crate::rows::{ActorRow, SweepRow};
+use mi_base::{Position, Prefix};
+use mi_board::Board;
+use mi_key::Key;
+
+impl ActorRow {
+    /// It has seen the whole log, and this floor.
+    pub fn learn(&mut self, board: &Board, floor: Position)
+        ensures { self.new ≡ record self.old { seen = length board.now.log; floor = floor } }
+    {
+        self.see(board);
+        self.floor = floor;
+    }
+
+    /// It was given the leaf to split, and claims it.
+    pub fn take_split(&mut self, board: &Board, floor: Position, leaf: &Prefix)
+        ensures { self.new ≡ record self.old { seen = length board.now.log; floor = floor; claim = Some leaf.now } }
+    {
+        self.learn(board, floor);
+        self.claim = Some(leaf.copy());
+    }
+
+    /// It was given the leaf to sweep, from its first key on.
+    pub fn take_sweep(&mut self, board: &Board, floor: Position, leaf: &Prefix, mark: Key)
+        ensures { self.new ≡ record self.old { seen = length board.now.log; floor = floor; sweep = Some (record { leaf = leaf.now; mark = mark }) } }
+    {
+        self.learn(board, floor);
+        let leaf = leaf.copy();
+        self.sweep = Some(SweepRow { leaf, mark });
+    }
+
+    /// It has swept the page, up to this key; at the end of its leaf the sweep is over.
+    pub fn sweep_up_to(&mut self, page: u32, mark: Key, end: Key)
+        ensures { self.new ≡ record self.old { page = page; sweep = swept_row mark end self.old.sweep } }
+    {
+        self.note(page);
+        if mark == end {
+            self.sweep = None;
+        } else if let Some(work) = &mut self.sweep {
+            work.mark = mark;
+        }
+    }
+
+    /// Its split is over, and its claim with it.
+    pub fn end_split(&mut self, board: &Board)
+        ensures { self.new ≡ record self.old { seen = length board.now.log; claim = None; split = None } }
+    {
+        self.leave_leaf(board);
+        self.split = None;
+    }
+}
