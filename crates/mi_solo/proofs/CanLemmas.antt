@@ -124,7 +124,7 @@ module _ (s : State) (k : Kept s) (a : ℕ) (r : Actor) (there : slice_get s.act
         let g : Agrees c log id (Some may.kept) = subst (Agrees c log id) may.is ((sees_board s k a r there).guards id may.shard) in
         subst (λ (os : List Object). list_any (λ o. (o.id == id) && same_cell (permutation_of may.kept.dists.items) ((grid c).perm o.vector)) os ≡ true) (born_live (updates_of log))
         (found_any (λ x. same_cell (permutation_of may.kept.dists.items) ((grid c).perm x)) id (born (updates_of log)) g.1.0 g.1.1
-          (ap (λ ds. same_cell (permutation_of may.kept.dists.items) (permutation_of ds)) (sym g.1.3) ∙ same_self (permutation_of may.kept.dists.items)))
+        (ap (λ ds. same_cell (permutation_of may.kept.dists.items) (permutation_of ds)) (sym g.1.3) ∙ same_self (permutation_of may.kept.dists.items)))
 
   module _ (page : ℕ) (node : Node) (here : node_at s.pages page ≡ Some node) where
     -- the entry that the call makes is one that its event puts in
@@ -144,14 +144,22 @@ module _ (s : State) (k : Kept s) (a : ℕ) (r : Actor) (there : slice_get s.act
       can_insert = record {
         leaf = leaf;
         may = record {
-          shard = may.shard; here = may.reserved; kept_is = refl; whole = none_of r.split may.unsplit; claim = claim;
+          shard = may.shard;
+          here = may.reserved;
+          kept_is = refl;
+          whole = none_of r.split may.unsplit;
+          claim = claim;
           under = ap (λ ds. begins leaf (permutation_of ds)) (sym may.measured) ∙ (held_leaf (permutation_of e.dists.items) r.claim may.leaf).2;
           few = room;
           page_is = record { there = here; level = ends.level };
           inside = subst (IsInside node.low node.high) (sym its_key) (inside_of page node here _ low ends);
         };
         new = record {
-          small = small; fits = may.fits; birth = birth; dists = may.measured; death = death;
+          small = small;
+          fits = may.fits;
+          birth = birth;
+          dists = may.measured;
+          death = death;
           key = key ∙ ap (λ o. key_under c (prefix_or o) (key_distance e.dists.items) id e.birth) claim ∙ ap (λ ds. key_under c leaf (key_distance ds) id e.birth) may.measured;
         };
         absent = not_shown _ (sym (ap (λ o. records_in s.shards o id) may.shard) ∙ may.absent);
@@ -167,6 +175,7 @@ module _ (s : State) (k : Kept s) (a : ℕ) (r : Actor) (there : slice_get s.act
       where
         own : (parts_of e.key).birth ≡ e.birth
         own = aged c k.sound.limits k.sound.metric log k.sound.legal can.may.few can.leaf id e ((k.sound.each a r there).holds.leaf can.leaf can.may.claim) can.may.under can.new
+
         one : (z : Entry) → HasPlace c log s.actors s.board.retired z → z.key ≢ e.key
         one z h same =
             let old = (timely c log z h.is).birth in
@@ -195,7 +204,11 @@ module _ (s : State) (k : Kept s) (a : ℕ) (r : Actor) (there : slice_get s.act
         has = kept.0;
         found = kept.1;
         may = record {
-          shard = may.shard; here = may.reserved; kept_is = refl; whole = none_of r.split may.unsplit; claim = claim_d;
+          shard = may.shard;
+          here = may.reserved;
+          kept_is = refl;
+          whole = none_of r.split may.unsplit;
+          claim = claim_d;
           under = ap (λ ds. begins leaf_d (permutation_of ds)) (sym kept.3) ∙ (held_leaf (permutation_of may.kept.dists.items) r.claim may.leaf).2;
           few = room;
           page_is = record { there = here; level = ends.level };
@@ -214,8 +227,10 @@ module _ (s : State) (k : Kept s) (a : ℕ) (r : Actor) (there : slice_get s.act
       where
         x : EntryOf s node (object_of s k.sound a r there id page node rows key can).object
         x = entry_here s k.sound a r there id page node rows key can
+
         its : IsEntry c log x.entry
         its = (all_get (HasPlace c log s.actors s.board.retired) node.entries x.place x.entry (page_in s k page node here can.may.page_is.level (HasPlace c log s.actors s.board.retired) k.sound.entries.places) x.there).is
+
         lives : (o : Option ℕ) → x.entry.death ≡ o → x.entry.death ≡ None
         lives None e = e
         lives (Some d) e =

@@ -60,20 +60,34 @@ module _ (s : State) (k : Kept s) (a : ℕ) (r : Actor) (page seen : ℕ) where
   module _ (later : Later v w) where
     pub inserts : (op id : ℕ) (vector : List ℤ) (dists : List ℕ) (result : Commit) → InsertSees v w result → InsertAnswer v w page op id vector dists result → CommitsInsert v w page op id vector dists result
     inserts op id vector dists result board answer = record {
-      later = later; lacked = refl; told = refl; leaf = refl;
+      later = later;
+      lacked = refl;
+      told = refl;
+      leaf = refl;
       apart = same_apart s s.pages (set s.actors a q) a r seen page r.fresh r.owed;
-      floor = refl; fresh = refl; owes = refl; board = board;
+      floor = refl;
+      fresh = refl;
+      owes = refl;
+      board = board;
       tries = same_tries s s.pages (set s.actors a q) a r seen page r.fresh r.owed;
-      page_is = refl; answer = answer;
+      page_is = refl;
+      answer = answer;
     }
 
     pub deletes : (op id : ℕ) (result : Commit) → DeleteSees v w result → DeleteAnswer v w page op id result → CommitsDelete v w page op id result
     deletes op id result board answer = record {
-      later = later; lacked = refl; told = refl; leaf = refl;
+      later = later;
+      lacked = refl;
+      told = refl;
+      leaf = refl;
       apart = same_apart s s.pages (set s.actors a q) a r seen page r.fresh r.owed;
-      floor = refl; fresh = refl; owes = refl; board = board;
+      floor = refl;
+      fresh = refl;
+      owes = refl;
+      board = board;
       tries = same_tries s s.pages (set s.actors a q) a r seen page r.fresh r.owed;
-      page_is = refl; answer = answer;
+      page_is = refl;
+      answer = answer;
     }
 
   pub enters_nothing : world.NotEntered v w
@@ -178,15 +192,19 @@ module _ (s : State) (k : Kept s) (a : ℕ) (r : Actor) (there : slice_get s.act
 
       crowd : crowded_at s.board ((grid c).perm vector) ≡ is_crowded_leaf c log r.claim
       crowd = crowded_is c k.sound.limits log k.sound.legal leaf ((k.sound.each a r there).holds.leaf leaf claim) vector
-            (ap (λ ds. begins leaf (permutation_of ds)) (sym may.measured) ∙ (held_leaf (permutation_of dists) r.claim may.leaf).2)
+          (ap (λ ds. begins leaf (permutation_of ds)) (sym may.measured) ∙ (held_leaf (permutation_of dists) r.claim may.leaf).2)
           ∙ ap (is_crowded_leaf c log) (sym claim)
 
       pub insert_crowded : Can s a r (refuse_at page (crowded vector)) → CommitsInsert vv (shown_to (after s a r (refuse_at page (crowded vector))) a (record r { seen = length s.board.log; page = page })) page op id vector dists commit.Crowded
       insert_crowded can =
           let is : is_crowded_leaf c log r.claim ≡ true = sym crowd ∙ can.1 in
-          inserts s k a r page (length log) (later_r (crowded vector) can) op id vector dists commit.Crowded (sees (crowded vector) can)
-          (same_update s s.pages (set s.actors a qm) a r (length log) page r.fresh r.owed, reached (crowded vector) can (insert_key vv dists id (next_number vv)) e, room, is,
-           ap (leaf_wanted c log) claim ∙ crowded_wanted c.levels c.cell leaf (k.sound.limits.cell.0) (cells_of c log) (ap (is_crowded_leaf c log) (sym claim) ∙ is))
+          inserts s k a r page (length log) (later_r (crowded vector) can) op id vector dists commit.Crowded (sees (crowded vector) can) (
+            same_update s s.pages (set s.actors a qm) a r (length log) page r.fresh r.owed,
+            reached (crowded vector) can (insert_key vv dists id (next_number vv)) e,
+            room,
+            is,
+            ap (leaf_wanted c log) claim ∙ crowded_wanted c.levels c.cell leaf (k.sound.limits.cell.0) (cells_of c log) (ap (is_crowded_leaf c log) (sym claim) ∙ is),
+          )
 
       pub insert_page_full : Can s a r (refuse_at page (page_full page)) → crowded_at s.board ((grid s.board.settings).perm vector) ≡ false
           → CommitsInsert vv (shown_to (after s a r (refuse_at page (page_full page))) a (record r { seen = length s.board.log; page = page })) page op id vector dists commit.PageFull
@@ -219,7 +237,7 @@ module _ (page op id : ℕ) (node : Node) where
     pub inserts_page_full : Makes (refuse_at page (page_full page)) (λ s v w. node_at s.pages page ≡ Some node → MayInsert v id vector dists → EndsAfter node 0 (insert_key v dists id (next_number v)) → HasRoom s.board
         → crowded_at s.board ((grid s.board.settings).perm vector) ≡ false → CommitsInsert v w page op id vector dists commit.PageFull)
     inserts_page_full = made (refuse_at page (page_full page)) (λ s v w. At s → MayInsert v id vector dists → EndsAfter node 0 (insert_key v dists id (next_number v)) → HasRoom s.board
-          → crowded_at s.board ((grid s.board.settings).perm vector) ≡ false → CommitsInsert v w page op id vector dists commit.PageFull)
+        → crowded_at s.board ((grid s.board.settings).perm vector) ≡ false → CommitsInsert v w page op id vector dists commit.PageFull)
         (λ s k a r there going can. (_, set_there s.actors a (record r { seen = length s.board.log; page = page }) r there, λ here may e room calm. insert_page_full s k a r there going page node here op id vector dists may e room can calm))
 
   pub deletes_down : (child : ℕ) → Makes (visit page) (λ s v w. node_at s.pages page ≡ Some node → PointsDown node 0 (delete_key v id) child → CommitsDelete v w page op id (commit.Down child))

@@ -27,7 +27,7 @@ pub crowded_wanted : (levels cell : ℕ) (p : List ℕ) → 1 ≤ cell → (ls :
 crowded_wanted levels cell p some [] h = h
 crowded_wanted levels cell p some (l ∷ ls) h =
     let P : Bool → Type 0 = λ b. (same_cell p l.prefix && is_crowded levels cell l) ≡ b → (b || list_any (λ l. same_cell p l.prefix && is_crowded levels cell l) ls) ≡ true
-        → ((same_cell p l.prefix && is_wanted levels cell l) || list_any (λ l. same_cell p l.prefix && is_wanted levels cell l) ls) ≡ true in
+    → ((same_cell p l.prefix && is_wanted levels cell l) || list_any (λ l. same_cell p l.prefix && is_wanted levels cell l) ls) ≡ true in
     (elim (same_cell p l.prefix && is_crowded levels cell l) as P [
       | true ↦ λ e _.
           let x = and_parts (same_cell p l.prefix) (is_crowded levels cell l) e in
@@ -58,9 +58,9 @@ module _ (c : Configuration) (limits : IsWithinLimits c) (log : List LogEvent) (
           (elim (begins q ((grid c).perm v)) as P [
             | true ↦ λ e. sym (ap (same_cell p) (leaf_is (grid c) (is_grid c limits) log (all_may c log legal) q v its e ∙ sym (leaf_is (grid c) (is_grid c limits) log (all_may c log legal) p v leaf under)) ∙ same_self p)
             | false ↦ λ e. (elim (same_cell p q) as Q [
-                | true ↦ λ s n. sym n ∙ ap (λ z. begins z ((grid c).perm v)) (sym (same_cell_is p q s)) ∙ under
-                | false ↦ λ _ _. refl
-              ]) refl e
+              | true ↦ λ s n. sym n ∙ ap (λ z. begins z ((grid c).perm v)) (sym (same_cell_is p q s)) ∙ under
+              | false ↦ λ _ _. refl
+            ]) refl e
           ]) refl
 
 -- all records but one

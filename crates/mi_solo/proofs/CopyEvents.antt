@@ -66,12 +66,17 @@ module _ (s : State) (pages : List (Option Node)) (actors : List Actor) (a : ℕ
       update = update_by s t a r q refl refl refl refl;
       leaf = leaf_by s t a r q refl refl;
       sweep = record { sweep = refl; swept = refl };
-      gathered = same; flags = flags;
+      gathered = same;
+      flags = flags;
       actors = record { absorbed = refl; forked = refl };
-      pin = refl; floor = refl; fresh = refl; owes = refl;
+      pin = refl;
+      floor = refl;
+      fresh = refl;
+      owes = refl;
       board = board_by s t a r q refl refl;
       tries = tries_by s t a r q refl refl;
-      page_is = refl; answer = answer;
+      page_is = refl;
+      answer = answer;
     }
 
     uncopies_by : (result : Put) → UncopyAnswer (shown_to s a r) w page result → Uncopies (shown_to s a r) w page result
@@ -82,10 +87,14 @@ module _ (s : State) (pages : List (Option Node)) (actors : List Actor) (a : ℕ
       sweep = record { sweep = refl; swept = refl };
       gathered = same;
       actors = record { absorbed = refl; forked = refl };
-      pin = refl; floor = refl; fresh = refl; owes = refl;
+      pin = refl;
+      floor = refl;
+      fresh = refl;
+      owes = refl;
       board = board_by s t a r q refl refl;
       tries = tries_by s t a r q refl refl;
-      page_is = refl; answer = answer;
+      page_is = refl;
+      answer = answer;
     }
 
 -- a split's copies are other in number alone
@@ -198,11 +207,12 @@ module _ (s : State) (k : Kept s) (a : ℕ) (r : Actor) (there : slice_get s.act
 
     pub copy_done : CopiesIn v wc page put.Done
     copy_done = copies_by s tc.pages tc.actors a r page (copied_to (copied_of r.split + 1) r.split) r.undone r.early (later_own s k a r there going (copy_in page node e) can qc (set_there s.actors a qc r there))
-        (counted_to s tc.pages tc.actors a r page (copied_of r.split + 1) r.undone r.early) (record { undone = refl; early = refl }) put.Done
-        (ap (λ o. copied_of (copied_to (copied_of o + 1) o)) can.2.split ∙ ap (λ o. copied_of o + 1) (sym can.2.split),
+        (counted_to s tc.pages tc.actors a r page (copied_of r.split + 1) r.undone r.early) (record { undone = refl; early = refl }) put.Done (
+          ap (λ o. copied_of (copied_to (copied_of o + 1) o)) can.2.split ∙ ap (λ o. copied_of o + 1) (sym can.2.split),
           is_reached s k tc (onward s k a r there (copy_in page node e) can) a r qc page node can.0.there (ap (λ o. (node_or_fresh o).high) there_now) 0 (next_copy v)
-            (record { level = can.0.level; under = ap (is_below node.high) next ∙ can.6.below_high }),
-          taken)
+              (record { level = can.0.level; under = ap (is_below node.high) next ∙ can.6.below_high }),
+          taken,
+        )
 
   -- the last copy is taken back
   module _ (e : Entry) (told : Bool) (can : Can s a r (uncopy page node e told)) where
@@ -232,11 +242,13 @@ module _ (s : State) (k : Kept s) (a : ℕ) (r : Actor) (there : slice_get s.act
 
     pub uncopy_done : told ≡ v.told → Uncopies v wu page put.Done
     uncopy_done is = uncopies_by s tu.pages tu.actors a r page (copied_to (copied_of r.split - 1) r.split) true (cond told r.early true)
-        (later_own s k a r there going (uncopy page node e told) can qu (set_there s.actors a qu r there)) (counted_to s tu.pages tu.actors a r page (copied_of r.split - 1) true (cond told r.early true)) put.Done
-        (fewer_copied,
+        (later_own s k a r there going (uncopy page node e told) can qu (set_there s.actors a qu r there)) (counted_to s tu.pages tu.actors a r page (copied_of r.split - 1) true (cond told r.early true)) put.Done (
+          fewer_copied,
           is_reached s k tu (onward s k a r there (uncopy page node e told) can) a r qu page node can.0.there (ap (λ o. (node_or_fresh o).high) left_now) 0 (last_copy v)
-            (record { level = can.0.level; under = ap (is_below node.high) last ∙ can.7.below_high }),
-          refl, early_is told r.early ∙ ap (λ b. r.early || not b) is)
+              (record { level = can.0.level; under = ap (is_below node.high) last ∙ can.7.below_high }),
+          refl,
+          early_is told r.early ∙ ap (λ b. r.early || not b) is,
+        )
 
 -- the same, of each event
 module _ (page : ℕ) (node : Node) where
@@ -266,8 +278,11 @@ module _ (page : ℕ) (node : Node) where
 
   pub uncopies_done : (e : Entry) (told : Bool) → Makes (uncopy page node e told) (λ s v w. told ≡ v.told → Uncopies v w page put.Done)
   uncopies_done e told = made (uncopy page node e told) (λ s v w. told ≡ v.told → Uncopies v w page put.Done)
-      (λ s k a r there going can. (_, set_there s.actors a (record (with_split_at (copied_to (copied_of r.split - 1) r.split) page r) { undone = true; early = cond told r.early true }) r there,
-        λ is. uncopy_done s k a r there going page node e told can is))
+      (λ s k a r there going can. (
+        _,
+        set_there s.actors a (record (with_split_at (copied_to (copied_of r.split - 1) r.split) page r) { undone = true; early = cond told r.early true }) r there,
+        λ is. uncopy_done s k a r there going page node e told can is,
+      ))
 
 has_some : (key : ℕ) (xs : List Entry) → 1 ≤ length (filter (λ z. z.key == key) xs) → has key (entry_keys xs) ≡ true
 has_some key [] h = absurd (omega arith)
@@ -304,10 +319,16 @@ module _ (s : State) (k : Kept s) (a : ℕ) (r : Actor) (there : slice_get s.act
   pub can_copy : slice_get w.gathered w.copied ≡ Some old → view.whole ≡ true → view.low page ≤ next_copy view → EndsAfter node 0 (next_copy view) → length (without_dead r.floor.updates node.entries) < 32
       → Can s a r (copy_in page node (copy_in_child (grid s.board.settings) w.leaf old))
   can_copy at whole low e space =
-      let key = next_is s a r w split old at in
-      (record { there = here; level = e.level }, w,
-       record { split = split; whole = leb-true (cell_end (grid s.board.settings) w.leaf) w.mark (sym (ap (is_whole s.board.settings) split) ∙ whole) },
-       old, at, refl, record { from_low = omega (arith, low, low_is, key); below_high = ap (is_below node.high) (sym key) ∙ e.under }, space)
+      let key = next_is s a r w split old at in (
+        record { there = here; level = e.level },
+        w,
+        record { split = split; whole = leb-true (cell_end (grid s.board.settings) w.leaf) w.mark (sym (ap (is_whole s.board.settings) split) ∙ whole) },
+        old,
+        at,
+        refl,
+        record { from_low = omega (arith, low, low_is, key); below_high = ap (is_below node.high) (sym key) ∙ e.under },
+        space,
+      )
 
   -- no entry has the key of the next copy
   pub copy_absent : slice_get w.gathered w.copied ≡ Some old → node.level ≡ 0 → (floor : ℕ) → has_entry copy.key (without_dead floor node.entries) ≡ false
@@ -320,10 +341,17 @@ module _ (s : State) (k : Kept s) (a : ℕ) (r : Actor) (there : slice_get s.act
   pub can_uncopy : slice_get w.gathered (w.copied - 1) ≡ Some old → 0 < w.copied → view.low page ≤ last_copy view → EndsAfter node 0 (last_copy view) → (told : Bool) → told ≡ view.told
       → Can s a r (uncopy page node (copy_in_child (grid s.board.settings) w.leaf old) told)
   can_uncopy at some low e told is =
-      let key = last_is s a r w split old at in
-      (record { there = here; level = e.level }, w, split, some, old, at, refl,
-       record { from_low = omega (arith, low, low_is, key); below_high = ap (is_below node.high) (sym key) ∙ e.under },
-       λ t. eqb-true s.board.allotted s.board.settings.pages (sym is ∙ t))
+      let key = last_is s a r w split old at in (
+        record { there = here; level = e.level },
+        w,
+        split,
+        some,
+        old,
+        at,
+        refl,
+        record { from_low = omega (arith, low, low_is, key); below_high = ap (is_below node.high) (sym key) ∙ e.under },
+        λ t. eqb-true s.board.allotted s.board.settings.pages (sym is ∙ t),
+      )
 
   -- the last copy is on the page in whose range its key lies
   pub copy_there : slice_get w.gathered (w.copied - 1) ≡ Some old → 0 < w.copied → node.level ≡ 0 → IsInside node.low node.high copy.key → has_entry copy.key node.entries ≡ true
@@ -336,9 +364,15 @@ module _ (s : State) (k : Kept s) (a : ℕ) (r : Actor) (there : slice_get s.act
       let one : 1 ≤ length (filter t (map (copy_in_child g w.leaf) (take w.copied w.gathered))) = some_taken t (copy_in_child g w.leaf) w.copied (w.copied - 1) w.gathered old (omega arith) at (eq-eqb copy.key copy.key refl) in
       let same = same_length _ _ (same_filter t _ _ (k.sound.entries.works a r w there split).copies) in
       let whole : 1 ≤ length (filter t (all_entries f)) =
-      omega (arith, one, same, ap length (filter_twice t p (filter u (all_entries f))), ap length (filter_twice (λ x. p x && t x) u (all_entries f)),
-        fewer (λ x. u x && (p x && t x)) t (λ x h. (and_parts (p x) (t x) (and_parts (u x) (p x && t x) h).1).1) (all_entries f)) in
+      omega (
+        arith,
+        one,
+        same,
+        ap length (filter_twice t p (filter u (all_entries f))),
+        ap length (filter_twice (λ x. p x && t x) u (all_entries f)),
+        fewer (λ x. u x && (p x && t x)) t (λ x h. (and_parts (p x) (t x) (and_parts (u x) (p x && t x) h).1).1) (all_entries f),
+      ) in
       ap (λ (n : Node). has_entry copy.key n.entries) (sym (ap node_or_fresh here))
       ∙ sym (has_here f k.sound.pages.forest page (k.sound.pages.linked page node here) (ap (λ o. (node_or_fresh o).level) here ∙ leaf) copy.key
-        (subst (λ (n : Node). IsInside n.low n.high copy.key) (sym (ap node_or_fresh here)) inside))
+      (subst (λ (n : Node). IsInside n.low n.high copy.key) (sym (ap node_or_fresh here)) inside))
       ∙ has_some copy.key (all_entries f) whole

@@ -83,10 +83,11 @@ module _ (s : State) (k : Kept s) (t : State) (o : Onward s t)
   still : (p : ℕ) → IsLinked g p → IsTrue (w.named p) × (w.level p ≡ v.level p) × (w.low p ≡ v.low p)
   still p l =
       let z = k.sound.pages.there p l in
-      let y = o.later.pages p z.0 z.1 in
-      (ap is_some y.there,
-       ap (λ x. (node_or_fresh x).level) y.there ∙ y.level ∙ ap (λ x. (node_or_fresh x).level) (sym z.1),
-       ap (λ x. (node_or_fresh x).low) y.there ∙ y.low ∙ ap (λ x. (node_or_fresh x).low) (sym z.1))
+      let y = o.later.pages p z.0 z.1 in (
+        ap is_some y.there,
+        ap (λ x. (node_or_fresh x).level) y.there ∙ y.level ∙ ap (λ x. (node_or_fresh x).level) (sym z.1),
+        ap (λ x. (node_or_fresh x).low) y.there ∙ y.low ∙ ap (λ x. (node_or_fresh x).low) (sym z.1),
+      )
 
   pub goes_down : (sought key child : ℕ) → PointsDown node sought key child → GoesDown v w page child sought key
   goes_down sought key child c =
@@ -109,7 +110,7 @@ module _ (s : State) (k : Kept s) (t : State) (o : Onward s t)
       let reached = d.reached in
       let low = x.2 in
       subst (λ n. IsTrue (w.named n) × (w.level n ≡ v.level page) × (w.low n ≤ key) × (v.low page < w.low n) × (w.low n < 2 ^ 128) × (w.high ≡ Some (w.low n))) same
-        (x.0, x.1 ∙ d.follows.height, omega arith, omega arith, e.small (w.low d.to) high, high_is ∙ high)
+      (x.0, x.1 ∙ d.follows.height, omega arith, omega arith, e.small (w.low d.to) high, high_is ∙ high)
 
   pub goes_right : (sought key next : ℕ) → PointsRight node sought key next → GoesRight v w page next sought key
   goes_right sought key next p =

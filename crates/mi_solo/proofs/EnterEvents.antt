@@ -125,7 +125,8 @@ module _ (s : State) (k : Kept s) (a : ℕ) (r : Actor) (there : slice_get s.act
       known = subst (Agrees s.board.settings s.board.log id) (in_shard s k a r there op id ui kept can.may.shard can.may.kept_is id ∙ ap record_shown can.absent) (agreed s k a r there op id ui kept can.may.shard can.may.kept_is);
       seen = refl;
       number_is = can.new.birth;
-      own = refl; shard = refl;
+      own = refl;
+      shard = refl;
       records = λ i n. then_shard s k a r there op id ui kept can.may.shard can.may.kept_is (with_record y kept) i ∙ ap record_shown (find_more y i n kept.records)
           ∙ sym (in_shard s k a r there op id ui kept can.may.shard can.may.kept_is i);
       reserved = refl;
@@ -135,7 +136,8 @@ module _ (s : State) (k : Kept s) (a : ℕ) (r : Actor) (there : slice_get s.act
     recorded = record {
       kept = record { birth = e.birth; dists = record { items = e.dists.items } };
       is = then_shard s k a r there op id ui kept can.may.shard can.may.kept_is (with_record y kept) id ∙ ap record_shown (find_new y kept.records can.absent);
-      birth_is = refl; dists_are = refl;
+      birth_is = refl;
+      dists_are = refl;
     }
 
     key_is : insert_key wi e.dists.items id e.birth ≡ e.key
@@ -161,16 +163,23 @@ module _ (s : State) (k : Kept s) (a : ℕ) (r : Actor) (there : slice_get s.act
     pub insert_done : CommitsInsert (shown_to s a r) (shown_to (after s a r (insert op id page node kept e)) a (committed (with_update a op (update.Insert id e.vector) s.board) a op (update.Insert id e.vector) page r)) page op id e.vector e.dists.items (commit.Done e.birth)
     insert_done = record {
       later = later_own s k a r there going (insert op id page node kept e) can qi now_insert;
-      lacked = refl; told = refl; leaf = refl;
+      lacked = refl;
+      told = refl;
+      leaf = refl;
       apart = apart_by s t a r qi refl refl refl refl refl (same_pin s k a r there op id ui kept can.may.shard can.may.kept_is);
-      floor = refl; fresh = refl; owes = refl;
+      floor = refl;
+      fresh = refl;
+      owes = refl;
       board = sees_own s k a r there going (insert op id page node kept e) can qi now_insert;
       tries = record { tried = refl; found = same_found s k a r there op id ui kept can.may.shard can.may.kept_is (with_record y kept) };
       page_is = refl;
-      answer = (enters,
+      answer = (
+        enters,
         is_reached s k t (onward s k a r there (insert op id page node kept e) can) a r qi page node can.may.page_is.there (ap (λ o. (node_or_fresh o).high) there_now) 0 (insert_key wi e.dists.items id e.birth)
-          (record { level = can.may.page_is.level; under = ap (is_below node.high) key_is ∙ can.may.inside.below_high }),
-        recorded, taken);
+            (record { level = can.may.page_is.level; under = ap (is_below node.high) key_is ∙ can.may.inside.below_high }),
+        recorded,
+        taken,
+      );
     }
 
   module _ (op id page : ℕ) (node : Node) (kept : Rows) (key : ℕ) (can : Can s a r (delete op id page node kept key)) where
@@ -204,7 +213,8 @@ module _ (s : State) (k : Kept s) (a : ℕ) (r : Actor) (there : slice_get s.act
       known = live_of s.board.settings s.board.log id (v.records id) _ record_is (agreed s k a r there op id ud kept can.may.shard can.may.kept_is);
       seen = refl;
       number_is = refl;
-      own = refl; shard = refl;
+      own = refl;
+      shard = refl;
       records = λ i n. then_shard s k a r there op id ud kept can.may.shard can.may.kept_is (without_id id kept) i ∙ ap record_shown (find_else id i n kept.records)
           ∙ sym (in_shard s k a r there op id ud kept can.may.shard can.may.kept_is i);
       reserved = refl;
@@ -220,16 +230,22 @@ module _ (s : State) (k : Kept s) (a : ℕ) (r : Actor) (there : slice_get s.act
     pub delete_done : CommitsDelete (shown_to s a r) (shown_to (after s a r (delete op id page node kept key)) a (committed (with_update a op (update.Delete id) s.board) a op (update.Delete id) page r)) page op id (commit.Done (length (updates_of s.board.log) + 1))
     delete_done = record {
       later = later_own s k a r there going (delete op id page node kept key) can qd now_delete;
-      lacked = refl; told = refl; leaf = refl;
+      lacked = refl;
+      told = refl;
+      leaf = refl;
       apart = apart_by s td a r qd refl refl refl refl refl (same_pin s k a r there op id ud kept can.may.shard can.may.kept_is);
-      floor = refl; fresh = refl; owes = refl;
+      floor = refl;
+      fresh = refl;
+      owes = refl;
       board = sees_own s k a r there going (delete op id page node kept key) can qd now_delete;
       tries = record { tried = refl; found = same_found s k a r there op id ud kept can.may.shard can.may.kept_is (without_id id kept) };
       page_is = refl;
-      answer = (enters_delete,
+      answer = (
+        enters_delete,
         is_reached s k td (onward s k a r there (delete op id page node kept key) can) a r qd page node can.may.page_is.there (ap (λ o. (node_or_fresh o).high) marked) 0 (delete_key v id)
-          (record { level = can.may.page_is.level; under = ap (is_below node.high) key_is_d ∙ can.may.inside.below_high }),
-        then_shard s k a r there op id ud kept can.may.shard can.may.kept_is (without_id id kept) id ∙ ap record_shown (find_gone id kept.records));
+            (record { level = can.may.page_is.level; under = ap (is_below node.high) key_is_d ∙ can.may.inside.below_high }),
+        then_shard s k a r there op id ud kept can.may.shard can.may.kept_is (without_id id kept) id ∙ ap record_shown (find_gone id kept.records),
+      );
     }
 
 pub inserts_done : (op id page : ℕ) (node : Node) (kept : Rows) (e : Entry) → Makes (insert op id page node kept e) (λ s v w. CommitsInsert v w page op id e.vector e.dists.items (commit.Done e.birth))

@@ -63,9 +63,10 @@ module _ (s : State) (k : Kept s) (a : ℕ) (r : Actor) (there : slice_get s.act
       let x : Agrees c log id (Some may.kept) = subst (Agrees c log id) may.is ((sees_board s k a r there).guards id may.shard) in
       let o : Born = x.1.0 in
       let born_at : slice_get (updates_of log) (o.birth - 1) ≡ Some (Insert o.id o.vector) =
-      all_one (Inserted (updates_of log)) (born (updates_of log)) o (inserted_from [] [] (updates_of log) tt) (find_in (λ y. y.id == id) (born (updates_of log)) o x.1.1).1 in
-      (subst (λ ds. key_distance ds < 2 ^ 27) (sym x.1.3) (distance_small c k.sound.limits k.sound.metric o.vector (inserted_fits c [] log k.sound.legal.each (o.birth - 1) o.id o.vector born_at)),
-       omega (arith, few, x.1.2, slice_get_within (updates_of log) (o.birth - 1) (Insert o.id o.vector) born_at))
+      all_one (Inserted (updates_of log)) (born (updates_of log)) o (inserted_from [] [] (updates_of log) tt) (find_in (λ y. y.id == id) (born (updates_of log)) o x.1.1).1 in (
+        subst (λ ds. key_distance ds < 2 ^ 27) (sym x.1.3) (distance_small c k.sound.limits k.sound.metric o.vector (inserted_fits c [] log k.sound.legal.each (o.birth - 1) o.id o.vector born_at)),
+        omega (arith, few, x.1.2, slice_get_within (updates_of log) (o.birth - 1) (Insert o.id o.vector) born_at),
+      )
 
   -- what a split gathers
   module _ (w : SplitWork) (split : r.split ≡ Some w) where
@@ -82,8 +83,8 @@ module _ (s : State) (k : Kept s) (a : ℕ) (r : Actor) (there : slice_get s.act
     gathered = subst (AllByRecursion (λ e. IsEntry c log e × (is_under g w.leaf e ≡ true))) (sym work.gathered)
         (filter_keeps _ (λ e. counts g log e && nat_lt e.key w.mark) (under g w.leaf F)
         (all_both (IsEntry c log) (λ e. is_under g w.leaf e ≡ true) (under g w.leaf F)
-          (filter_keeps (IsEntry c log) (is_under g w.leaf) F (all_weaker (HasPlace c log s.actors s.board.retired) (IsEntry c log) (λ e h. h.is) F k.sound.entries.places))
-          (all_passes (is_under g w.leaf) F)))
+        (filter_keeps (IsEntry c log) (is_under g w.leaf) F (all_weaker (HasPlace c log s.actors s.board.retired) (IsEntry c log) (λ e h. h.is) F k.sound.entries.places))
+        (all_passes (is_under g w.leaf) F)))
 
     one : (e : Entry) → IsEntry c log e × (is_under g w.leaf e ≡ true) → IsCopied s.board.settings w.leaf e
     one e h =

@@ -34,3 +34,4 @@ pub mod InsertSection
 pub mod WorkSections
 pub mod WayLemmas
 pub mod SweepSections
+pub mod DeleteSection

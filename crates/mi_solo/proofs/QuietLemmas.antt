@@ -11,7 +11,8 @@ use Rattle.mi_solo.proofs.SectionLemmas.{apart_by}
 module _ (s t : State) (a : ℕ) (r q : Actor) where
   pub update_by : t.shards ≡ s.shards → q.own ≡ r.own → q.shard ≡ r.shard → q.reserved_here ≡ r.reserved_here → SameUpdate (shown_to s a r) (shown_to t a q)
   update_by shards own shard reserved = record {
-    own = own; shard = shard;
+    own = own;
+    shard = shard;
     records = ap (λ l. records_in l q.shard) shards ∙ ap (records_in s.shards) shard;
     reserved = reserved;
   }

@@ -112,11 +112,11 @@ module _ (s : State) (k : Kept s) (page : ℕ) (node : Node) (here : node_at s.p
     offered =
         sym (ap (λ es. map offering_of (filter shows es)) its_entries)
         ∙ ap (map offering_of) (filter_twice shows (λ e. in_range node e.key) (all_entries f)
-          ∙ filter_same _ _ (all_entries f) (all_any (λ e. (in_range node e.key && shows e) ≡ (shows e && in_range node e.key)) (λ e. swap (in_range node e.key) (shows e)) (all_entries f))
-          ∙ sym (filter_twice (λ e. in_range node e.key) shows (all_entries f)))
+        ∙ filter_same _ _ (all_entries f) (all_any (λ e. (in_range node e.key && shows e) ≡ (shows e && in_range node e.key)) (λ e. swap (in_range node e.key) (shows e)) (all_entries f))
+        ∙ sym (filter_twice (λ e. in_range node e.key) shows (all_entries f)))
         ∙ sym (map_twice (λ (x : Shown). x.offering) shown_of (filter (λ e. in_range node e.key) (filter shows (all_entries f))))
         ∙ ap offerings (filter_map shown_of (λ (x : Shown). in_range node x.key) (filter shows (all_entries f))
-          ∙ ap (filter (λ (x : Shown). in_range node x.key)) (ap (λ n. map shown_of (filter (λ e. is_within range e.key && is_shown n e) (all_entries f))) (sym at_pin.updates) ∙ whole))
+        ∙ ap (filter (λ (x : Shown). in_range node x.key)) (ap (λ n. map shown_of (filter (λ e. is_within range e.key && is_shown n e) (all_entries f))) (sym at_pin.updates) ∙ whole))
       where
         swap : (x y : Bool) → (x && y) ≡ (y && x)
         swap true true = refl
@@ -163,8 +163,8 @@ module _ (s : State) (k : Kept s) (a : ℕ) (r : Actor) (there : slice_get s.act
   offers (Read None) t =
       let xs : List Shown = shown s.board.settings (pinned v) in
       on_page t.0.level ∙ ap offerings (filter_twice (λ x. in_range node x.key) (λ x. is_within range x.key) xs
-        ∙ filter_same _ _ xs (all_any (λ x. (is_within range x.key && in_range node x.key) ≡ (is_within range x.key && nat_le node.low x.key)) (λ x. one x.key) xs)
-        ∙ sym (filter_twice (λ x. nat_le node.low x.key) (λ x. is_within range x.key) xs))
+      ∙ filter_same _ _ xs (all_any (λ x. (is_within range x.key && in_range node x.key) ≡ (is_within range x.key && nat_le node.low x.key)) (λ x. one x.key) xs)
+      ∙ sym (filter_twice (λ x. nat_le node.low x.key) (λ x. is_within range x.key) xs))
       ∙ ap (λ low. offerings (from_on low (within range xs))) (sym low_is)
     where
       one : (key : ℕ) → (is_within range key && in_range node key) ≡ (is_within range key && nat_le node.low key)
@@ -178,16 +178,20 @@ module _ (s : State) (k : Kept s) (a : ℕ) (r : Actor) (there : slice_get s.act
       let xs : List Shown = within range (shown s.board.settings (pinned v)) in
       let high : node.high ≡ Some (w.low next) = ap (λ o. (node_or_fresh o).high) (sym here) ∙ (visits s k a r there going page (node, here) node here range (Read (Some next)) t).answer.1.5 in
       on_page t.0.level ∙ ap offerings (filter_same _ _ xs (all_any (λ x. in_range node x.key ≡ (nat_le node.low x.key && nat_lt x.key (w.low next))) (λ x. ap (λ o. nat_le node.low x.key && is_below o x.key) high) xs)
-        ∙ sym (filter_twice (λ x. nat_lt x.key (w.low next)) (λ x. nat_le node.low x.key) xs))
+      ∙ sym (filter_twice (λ x. nat_lt x.key (w.low next)) (λ x. nat_le node.low x.key) xs))
       ∙ ap (λ low. offerings (below (w.low next) (from_on low xs))) (sym low_is)
 
 pub offers_page : (page : ℕ) (node : Node) (range : Interval) (result : Visit)
     → Makes (visit page) (λ s v w. node_at s.pages page ≡ Some node → IsSome v.pin → IsInLeaf v range → AnswersVisit node range result → offered_of node range (length (updates_of (pinned v))) result ≡ offered_by v w page range result)
 offers_page page node range result = made (visit page)
     (λ s v w. node_at s.pages page ≡ Some node → IsSome v.pin → IsInLeaf v range → AnswersVisit node range result → offered_of node range (length (updates_of (pinned v))) result ≡ offered_by v w page range result)
-    (λ s k a r there going can. (noted page r, its s k a r there going page can, λ here some cell t.
-      let p = some_pin s.board.log r.pin some in
-      ap (λ n. offered_of node range n result) (pin_counts s k a r there p.0 p.1) ∙ offers s k a r there going page node here p.0 p.1 range cell result t))
+    (λ s k a r there going can. (
+      noted page r,
+      its s k a r there going page can,
+      λ here some cell t.
+          let p = some_pin s.board.log r.pin some in
+          ap (λ n. offered_of node range n result) (pin_counts s k a r there p.0 p.1) ∙ offers s k a r there going page node here p.0 p.1 range cell result t,
+    ))
   where
     some_pin : (l : List LogEvent) (o : Option Pin) → IsSome (pinned_log l o) → (p : Pin) × (o ≡ Some p)
     some_pin l None h = absurd (false≢true h)

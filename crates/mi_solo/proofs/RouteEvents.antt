@@ -49,7 +49,7 @@ abbrev owed_in : List Owed → ℕ → Bool
 owed_in owed = λ p. list_any (λ (o : Owed). o.child == p) owed
 
 turned : (m n : ℕ) → (m == n) ≡ (n == m)
-turned m n = elim (cases_eq m n) [ | inl e ↦ rw (eq-eqb m n e, eq-eqb n m (sym e)) refl | inr d ↦ rw (ne_eqb m n d, ne_eqb n m (λ e. d (sym e))) refl ]
+turned m n = elim (cases_eq m n) [ inl e ↦ rw (eq-eqb m n e, eq-eqb n m (sym e)) refl | inr d ↦ rw (ne_eqb m n d, ne_eqb n m (λ e. d (sym e))) refl ]
 
 owes_more : (owed : List Owed) (o : Owed) → owed_in (owed ++ o ∷ []) ≡ owing o.child (owed_in owed)
 owes_more owed o = fun_same _ _ (λ p. list_any-append (λ (x : Owed). x.child == p) owed (o ∷ []) ∙ ap (λ b. owed_in owed p || b) (or_no (o.child == p) ∙ turned o.child p))
@@ -64,19 +64,20 @@ owes_less owed child = fun_same _ _ (λ p. one p owed)
     no : (b : Bool) → (b && false) ≡ false
     no true = refl
     no false = refl
+
     one : (p : ℕ) (os : List Owed) → owed_in (paid child os) p ≡ (owed_in os p && not (p == child))
     one p [] = refl
     one p (o ∷ os) =
         let P : Bool → Type 0 = λ b. (o.child == child) ≡ b → owed_in (cond (not b) (o ∷ paid child os) (paid child os)) p ≡ (((o.child == p) || owed_in os p) && not (p == child)) in
         (elim (o.child == child) as P [
           | true ↦ λ e. one p os ∙ elim (cases_eq p child) [
-              | inl same ↦ rw (eq-eqb p child same) (no (owed_in os p) ∙ sym (no ((o.child == p) || owed_in os p)))
-              | inr d ↦ rw (ne_eqb o.child p (λ same. d (sym same ∙ eqb-true o.child child e))) refl
-            ]
+            | inl same ↦ rw (eq-eqb p child same) (no (owed_in os p) ∙ sym (no ((o.child == p) || owed_in os p)))
+            | inr d ↦ rw (ne_eqb o.child p (λ same. d (sym same ∙ eqb-true o.child child e))) refl
+          ]
           | false ↦ λ e. elim (cases_eq o.child p) [
-              | inl same ↦ rw (eq-eqb o.child p same, ne_eqb p child (λ z. false≢true (sym e ∙ eq-eqb o.child child (same ∙ z)))) refl
-              | inr d ↦ rw (ne_eqb o.child p d) (one p os)
-            ]
+            | inl same ↦ rw (eq-eqb o.child p same, ne_eqb p child (λ z. false≢true (sym e ∙ eq-eqb o.child child (same ∙ z)))) refl
+            | inr d ↦ rw (ne_eqb o.child p d) (one p os)
+          ]
         ]) refl
 
 -- a test that all pass
@@ -179,14 +180,18 @@ module _ (s : State) (k : Kept s) (a : ℕ) (r : Actor) (there : slice_get s.act
         board = same_board s t.pages t.actors a r r.seen page None qs.owed;
         tries = same_tries s t.pages t.actors a r r.seen page None qs.owed;
         page_is = refl;
-        answer = (refl, owes_more r.owed _, ap is_some upper_there,
+        answer = (
+          refl,
+          owes_more r.owed _,
+          ap is_some upper_there,
           ap (λ o. (node_or_fresh o).level) upper_there ∙ ap (λ o. (node_or_fresh o).level) (sym here),
           ap (λ o. (node_or_fresh o).low) upper_there,
           subst (λ n. n < middle_key node) (ap (λ o. (node_or_fresh o).low) (sym here)) (middle_inside node its many).1,
           ap (λ o. (node_or_fresh o).high) lower_there,
           ap (λ o. item_count (trim_leaf r.floor.updates (node_or_fresh o))) lower_there ∙ lower_count r.floor.updates (hand r.fresh) node its can.3,
           can.1 ∙ ap Some (sym (ap hand can.1)),
-          λ _. eq-eqb (item_count (page_seen s r page)) 32 (seen_is ∙ can.3));
+          λ _. eq-eqb (item_count (page_seen s r page)) 32 (seen_is ∙ can.3),
+        );
       }
 
       pub parts_child : (child : ℕ) → r.fresh ≡ Some child
@@ -241,7 +246,8 @@ module _ (s : State) (k : Kept s) (a : ℕ) (r : Actor) (there : slice_get s.act
         posts result answer = record {
           later = later_own s k a r there going (visit page) can qv (set_there s.actors a qv r there);
           work = same_work s s.pages (set s.actors a qv) a r r.seen page r.fresh r.owed;
-          floor = refl; fresh = refl;
+          floor = refl;
+          fresh = refl;
           board = same_board s s.pages (set s.actors a qv) a r r.seen page r.fresh r.owed;
           tries = same_tries s s.pages (set s.actors a qv) a r r.seen page r.fresh r.owed;
           page_is = refl;
@@ -298,7 +304,7 @@ module _ (s : State) (k : Kept s) (a : ℕ) (r : Actor) (there : slice_get s.act
         counted =
             let space = can.1.space in
             let P : Bool → Type 0 = λ b. has_route key node.routes ≡ b → (1 ≤ item_count (cond b node (record node { routes = put route_cmp (record { key = key; child = child }) node.routes })))
-                × (item_count (cond b node (record node { routes = put route_cmp (record { key = key; child = child }) node.routes })) ≤ 32) in
+            × (item_count (cond b node (record node { routes = put route_cmp (record { key = key; child = child }) node.routes })) ≤ 32) in
             (elim (has_route key node.routes) as P [
               | true ↦ λ e. (omega (arith, some_route node.routes e), omega (arith, none))
               | false ↦ λ e. (omega (arith, length-put route_cmp (record { key = key; child = child }) node.routes), omega (arith, none, length-put route_cmp (record { key = key; child = child }) node.routes))
@@ -318,13 +324,16 @@ module _ (s : State) (k : Kept s) (a : ℕ) (r : Actor) (there : slice_get s.act
         post_done = record {
           later = later_own s k a r there going (post page node key child) can qp (set_there s.actors a qp r there);
           work = same_work s tp.pages tp.actors a r r.seen page r.fresh qp.owed;
-          floor = refl; fresh = refl;
+          floor = refl;
+          fresh = refl;
           board = same_board s tp.pages tp.actors a r r.seen page r.fresh qp.owed;
           tries = same_tries s tp.pages tp.actors a r r.seen page r.fresh qp.owed;
           page_is = refl;
-          answer = (owes_less r.owed child,
+          answer = (
+            owes_less r.owed child,
             is_reached s k tp (onward s k a r there (post page node key child) can) a r qp page node here (ap (λ o. (node_or_fresh o).high) posted ∙ post_high) level key (record { level = at; under = can.1.inside.below_high }),
-            taken);
+            taken,
+          );
         }
 
   -- the fresh page is the new root
@@ -351,7 +360,8 @@ module _ (s : State) (k : Kept s) (a : ℕ) (r : Actor) (there : slice_get s.act
       pub grows : Grew v (shown_to (after s a r (grow level key child)) a (record (saw s.board r) { fresh = None; owed = paid child r.owed })) level child true
       grows = record {
         later = later_own s k a r there going (grow level key child) can qg now_grown;
-        lacked = refl; told = refl;
+        lacked = refl;
+        told = refl;
         work = record { update = update_by s tg a r qg refl refl refl refl; leaf = record { leaf = refl; wanted = refl }; apart = apart_by s tg a r qg refl refl refl refl refl refl };
         floor = refl;
         board = sees_own s k a r there going (grow level key child) can qg now_grown;
@@ -367,7 +377,8 @@ module _ (s : State) (k : Kept s) (a : ℕ) (r : Actor) (there : slice_get s.act
     pub grows_not : Can s a r (refuse (grown level)) → Grew v (shown_to (after s a r (refuse (grown level))) a (saw s.board r)) level child false
     grows_not can = record {
       later = later_own s k a r there going (refuse (grown level)) can (saw s.board r) (set_there s.actors a (saw s.board r) r there);
-      lacked = refl; told = refl;
+      lacked = refl;
+      told = refl;
       work = same_work s s.pages (set s.actors a (saw s.board r)) a r (length s.board.log) r.page r.fresh r.owed;
       floor = refl;
       board = sees_own s k a r there going (refuse (grown level)) can (saw s.board r) (set_there s.actors a (saw s.board r) r there);
@@ -394,6 +405,7 @@ module _ (s : State) (a : ℕ) (r : Actor) (level key child : ℕ) (i : IsChildA
     where
       f : Forest
       f = forest_of s.board s.pages s.actors k.sound.chain
+
       linked_level : has child (k.sound.chain below.0.level) ≡ true
       linked_level = ap (λ o. has child (k.sound.chain (node_or_fresh o).level)) (sym below.1) ∙ k.sound.pages.linked child below.0 below.1
 

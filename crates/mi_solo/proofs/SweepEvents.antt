@@ -51,10 +51,14 @@ module _ (s : State) (pages : List (Option Node)) (actors : List Actor) (a : ℕ
     split = split_by s t a r q refl refl;
     flags = record { undone = refl; early = refl };
     actors = record { absorbed = refl; forked = refl };
-    pin = refl; floor = refl; fresh = refl; owes = refl;
+    pin = refl;
+    floor = refl;
+    fresh = refl;
+    owes = refl;
     board = board_by s t a r q refl refl;
     tries = tries_by s t a r q refl refl;
-    page_is = refl; answer = answer;
+    page_is = refl;
+    answer = answer;
   }
 
 module _ (s : State) (k : Kept s) (a : ℕ) (r : Actor) (there : slice_get s.actors a ≡ Some r) (going : r.ended ≡ false) (page : ℕ) (node : Node) where
@@ -96,7 +100,7 @@ module _ (s : State) (k : Kept s) (a : ℕ) (r : Actor) (there : slice_get s.act
     trims None x = trims_by (Read None) (high_t ∙ x)
     trims (Some p) x =
         let on = reads_to s k tt' (onward s k a r there (trim page node) can) a r qv page node can.there high_t x.0 (Some p) can.level
-            (record { past = ap (λ o. is_below o x.0) x.1 ∙ le-ltb x.0 x.0 (omega arith); right = x.2; small = x.3 }) in
+        (record { past = ap (λ o. is_below o x.0) x.1 ∙ le-ltb x.0 x.0 (omega arith); right = x.2; small = x.3 }) in
         trims_by (Read (Some p)) (on.0, on.1, on.3, on.4, on.5)
 
   -- no entries are taken off
@@ -154,11 +158,12 @@ module _ (s : State) (k : Kept s) (a : ℕ) (r : Actor) (there : slice_get s.act
 
     pub sweeps : (next : Option ℕ) → ReadsOn node (last_key v v.sweep) next → Sweeps v ws page (Read next)
     sweeps None ends = sweeps_read None (
-        ap (λ o. swept_leaf (sweep_next c node o)) sweeping
+      ap (λ o. swept_leaf (sweep_next c node o)) sweeping
           ∙ ap (λ m. swept_leaf (cond (m == cell_end (grid c) x.leaf) None (Some (record x { mark = m })))) (mark_ends node.high (last_key v v.sweep) (cell_end (grid c) x.leaf) last_is ends)
           ∙ (rw (eq-eqb (cell_end (grid c) x.leaf) (cell_end (grid c) x.leaf) refl) refl),
-        reached,
-        reads_to s k ts (onward s k a r there (sweep page node) can) a r qs page node can.0.there high_s (last_key v v.sweep) None can.0.level ends)
+      reached,
+      reads_to s k ts (onward s k a r there (sweep page node) can) a r qs page node can.0.there high_s (last_key v v.sweep) None can.0.level ends,
+    )
     sweeps (Some next) e =
         let on = reads_to s k ts (onward s k a r there (sweep page node) can) a r qs page node can.0.there high_s (last_key v v.sweep) (Some next) can.0.level e in
         let m = mark_on node.high (ws.low next) (last_key v v.sweep) (cell_end (grid c) x.leaf) last_is (sym high_s ∙ on.5) e.past in
@@ -170,8 +175,12 @@ module _ (s : State) (k : Kept s) (a : ℕ) (r : Actor) (there : slice_get s.act
 -- when it may be an event
 pub can_sweep : (s : State) (a : ℕ) (r : Actor) (page : ℕ) (node : Node) → node_at s.pages page ≡ Some node → (w : SweepWork) → r.sweep ≡ Some w
     → (shown_to s a r).low page ≤ (shown_to s a r).swept → EndsAfter node 0 (shown_to s a r).swept → Can s a r (sweep page node)
-can_sweep s a r page node here w is low e = (record { there = here; level = e.level }, w, is,
-    subst (IsInside node.low node.high) (ap swept_to is) (record { from_low = omega (arith, ap (λ o. (node_or_fresh o).low) here, low); below_high = e.under }))
+can_sweep s a r page node here w is low e = (
+  record { there = here; level = e.level },
+  w,
+  is,
+  subst (IsInside node.low node.high) (ap swept_to is) (record { from_low = omega (arith, ap (λ o. (node_or_fresh o).low) here, low); below_high = e.under }),
+)
 
 -- the same, of each event
 module _ (page : ℕ) (node : Node) where

@@ -5,6 +5,7 @@ mod board_sections;
 mod boards;
 mod cell_keys;
 mod cores;
+mod delete_section;
 mod hands;
 mod insert_section;
 mod keying;

@@ -49,7 +49,7 @@ pub fn visits_follow()
         → Makes (visit page) (λ s v w. node_at s.pages page ≡ Some node → IsSome v.pin
         → IsInLeaf v range → AnswersVisit node range result
         → offered_of node range (length (updates_of (pinned v))) result
-            ≡ offered_by v w page range result) }
+        ≡ offered_by v w page range result) }
     ensures pin { (s : State) → Kept s → (a : ℕ) (r : Actor) → slice_get s.actors a ≡ Some r
         → (pin : Pin) → r.pin ≡ Some pin
         → length (updates_of (pinned (shown_to s a r))) ≡ pin.at.updates }
@@ -83,7 +83,7 @@ pub fn inserts_follow()
         → CommitsInsert v w page op id vector dists commit.PageFull) }
     ensures done { (op id page : ℕ) (node : Node) (kept : Rows) (e : Entry)
         → Makes (insert op id page node kept e) (λ s v w.
-            CommitsInsert v w page op id e.vector e.dists.items (commit.Done e.birth)) }
+        CommitsInsert v w page op id e.vector e.dists.items (commit.Done e.birth)) }
 {}
 
 /// An insert that the trait allows may be one, where the board and the page have room: of the
@@ -101,9 +101,9 @@ pub fn inserts_may_be()
         → e.birth ≡ next_number (shown_to s a r) → e.death ≡ None
         → e.key ≡ insert_key (shown_to s a r) e.dists.items id e.birth
         → (shown_to s a r).low page
-            ≤ insert_key (shown_to s a r) e.dists.items id (next_number (shown_to s a r))
+        ≤ insert_key (shown_to s a r) e.dists.items id (next_number (shown_to s a r))
         → EndsAfter node 0
-            (insert_key (shown_to s a r) e.dists.items id (next_number (shown_to s a r)))
+        (insert_key (shown_to s a r) e.dists.items id (next_number (shown_to s a r)))
         → HasRoom s.board → crowded_at s.board ((grid s.board.settings).perm e.vector) ≡ false
         → length (without_dead r.floor.updates node.entries) < 32
         → CanInsert s r id page node (shard_at s.shards (home id)).rows e }
@@ -129,7 +129,7 @@ pub fn deletes_follow()
         → CommitsDelete v w page op id (commit.Full s.board.settings.updates)) }
     ensures done { (op id page : ℕ) (node : Node) (kept : Rows) (key : ℕ)
         → Makes (delete op id page node kept key) (λ s v w.
-            CommitsDelete v w page op id (commit.Done (next_number v))) }
+        CommitsDelete v w page op id (commit.Done (next_number v))) }
 {}
 
 /// A delete that the trait allows may be one, where the log has room: of the board, as an event,
@@ -147,7 +147,7 @@ pub fn deletes_may_be()
         → (shown_to s a r).low page ≤ delete_key (shown_to s a r) id
         → EndsAfter node 0 (delete_key (shown_to s a r) id) → HasRoom s.board
         → CanDelete s r id page node (shard_at s.shards (home id)).rows
-            (delete_key (shown_to s a r) id) }
+        (delete_key (shown_to s a r) id) }
     ensures living { (s : State) → Kept s → (a : ℕ) (r : Actor) → slice_get s.actors a ≡ Some r
         → (page : ℕ) (node : Node) → node_at s.pages page ≡ Some node
         → (id : ℕ) (kept : Rows) (key : ℕ) → CanDelete s r id page node kept key

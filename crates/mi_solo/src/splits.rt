@@ -77,7 +77,7 @@ pub fn copies_follow()
         → r.split ≡ Some w → (old : Entry) → slice_get w.gathered w.copied ≡ Some old
         → node.level ≡ 0 → (floor : ℕ)
         → has_entry (copy_in_child (grid s.board.settings) w.leaf old).key
-            (without_dead floor node.entries) ≡ false }
+        (without_dead floor node.entries) ≡ false }
 {}
 
 /// What the taking back of a copy answers, and when it may be an event; the copy is on the page of
@@ -138,7 +138,7 @@ pub fn keys_fit()
     ensures claim { (s : State) → Kept s → (a : ℕ) (r : Actor) → slice_get s.actors a ≡ Some r
         → (p : List ℕ) → r.claim ≡ Some p
         → (length p ≤ s.board.settings.levels)
-            × (all_below (length s.board.settings.pivots) p ≡ true) }
+        × (all_below (length s.board.settings.pivots) p ≡ true) }
     ensures insert { (s : State) → Kept s → (a : ℕ) (r : Actor) → slice_get s.actors a ≡ Some r
         → (id : ℕ) (vector : List ℤ) (dists : List ℕ) → MayInsert (shown_to s a r) id vector dists
         → (key_distance dists < 2 ^ 27) × (next_number (shown_to s a r) < 2 ^ 30) }
