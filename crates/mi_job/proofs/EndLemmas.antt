@@ -9,6 +9,7 @@ use Rattle.mi_base.specs.History.{Entered}
 use Rattle.mi_legal.specs.Legal.{reach}
 use Rattle.mi_world.specs.View.{View}
 use Rattle.mi_blink.specs.Descents.{longest}
+use Rattle.mi_nearest.proofs.OthersLemmas as nears
 use Rattle.mi_range.proofs.OthersLemmas.{few_sections}
 use Rattle.mi_split.specs.declared.split.SplitOp.{SplitOp}
 use Rattle.mi_split.specs.Splitting.{split_most}
@@ -22,7 +23,7 @@ use Rattle.mi_job.specs.declared.care.Task.{Task}
 use Rattle.mi_job.specs.declared.care.Task.TheVariants.{Sweep, Split}
 use Rattle.mi_job.specs.declared.job.Job.{Job}
 use Rattle.mi_job.specs.declared.job.Operation.{Operation}
-use Rattle.mi_job.specs.declared.job.Operation.TheVariants.{Insert, Delete, Range}
+use Rattle.mi_job.specs.declared.job.Operation.TheVariants.{Insert, Delete, Range, Nearest}
 use Rattle.mi_job.specs.declared.turns.JobTurn.{JobTurn}
 use Rattle.mi_job.specs.declared.turns.JobTurn.TheVariants.{Done}
 use Rattle.mi_job.specs.Caring as caring
@@ -93,6 +94,7 @@ operation_small : (x : Operation) (b : Bool) (v : View) → v.settings.levels �
 operation_small (Insert job) b v deep h = omega (arith, next_small job.insert job.split v deep h.next)
 operation_small (Delete d) b v deep h = omega (arith, delete_small d v, long_fits)
 operation_small (Range range number) b v deep h = omega (arith, few_sections range v h.0)
+operation_small (Nearest nearest number) b v deep h = omega (arith, nears.few_sections nearest v h.0)
 
 pub job_small : (job : Job) (v : View) → v.settings.levels ≤ 6 → Ready job v → left job v < job_most
 job_small job v deep h = operation_small job.operation job.begun v deep h.operation

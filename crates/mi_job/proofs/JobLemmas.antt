@@ -22,14 +22,13 @@ use Rattle.mi_update.specs.Endings.{IsRight, reply_of}
 use Rattle.mi_update.specs.Stepping as stepping
 use Rattle.mi_update.proofs.FinishLemmas.{delete_finishes}
 use Rattle.mi_job.specs.declared.inserts.InsertJob.{InsertJob}
-use Rattle.mi_job.specs.declared.job.Operation.{Operation}
 use Rattle.mi_job.specs.declared.job.Operation.TheVariants.{Insert, Delete}
 use Rattle.mi_job.specs.declared.turns.JobTurn.{JobTurn}
 use Rattle.mi_job.specs.declared.turns.JobTurn.TheVariants.{More, Held, Done}
 use Rattle.mi_job.specs.Claims.{IsHeld}
 use Rattle.mi_job.specs.Inserts as inserts
 use Rattle.mi_job.specs.Inserts.{EarlyUnless}
-use Rattle.mi_job.specs.Jobs.{Enters, EntersNone, Outcome, Tells, TellsComputed, Turned, where_entered}
+use Rattle.mi_job.specs.Jobs.{Enters, EntersNone, Outcome, Tells, Turned, where_entered}
 
 where_is : (n : Option ℕ) (e : Entered) → stepping.added n e ≡ where_entered n (e ∷ [])
 where_is None e = refl
@@ -43,15 +42,6 @@ early_told (ending.Absent p) early w h k = h
 early_told (ending.Full n) early w h k = h
 early_told (ending.NoPages n) early w h k = h
 early_told ending.Memory early w h k = cc
-
-computed_none : (x : Operation) (e : Ending) → TellsComputed x (reply_of e)
-computed_none x (ending.Stored n) = tt
-computed_none x (ending.Removed n) = tt
-computed_none x (ending.Present p) = tt
-computed_none x (ending.Absent p) = tt
-computed_none x (ending.Full n) = tt
-computed_none x (ending.NoPages n) = tt
-computed_none x ending.Memory = tt
 
 same_right : (o o' : Op) (n n' : ℕ) (w : View) (y : Reply) → o ≡ o' → n ≡ n' → IsRight o n w y → IsRight o' n' w y
 same_right o o' n n' w y e k h = subst (λ m. IsRight o' m w y) k (subst (λ q. IsRight q n w y) e h)
@@ -78,7 +68,7 @@ module _ (i j : InsertJob) (b : Bool) (v w : View) where
         right = same_right _ _ _ _ w y t.asked_is t.op_is f.right;
         not_before = f.not_before;
         pinned = λ q. absurd (search rules);
-        computed_are = rw o.4 (computed_none (Insert i) o.3);
+        spent = tt;
         number_is = f.number_is;
         accepted_is = same_accepted _ _ _ _ w y t.asked_is t.op_is ∙ f.accepted_is ∙ where_is _ _;
         none_pending = λ p. rw (o.2, o.5) refl;
@@ -139,7 +129,7 @@ module _ (i j : DeleteOp) (b : Bool) (v w : View) (ready : deleting.Ready i v) (
         right = same_right _ _ _ _ w y (delete_asked (turn.Done y) t) t.op_is f.right;
         not_before = f.not_before;
         pinned = λ q. absurd (search rules);
-        computed_are = rw t.outcome.3 (computed_none (Delete i) t.outcome.2);
+        spent = tt;
         number_is = f.number_is;
         accepted_is = same_accepted _ _ _ _ w y (delete_asked (turn.Done y) t) t.op_is ∙ f.accepted_is ∙ where_is _ _;
         none_pending = λ p. refl;

@@ -2,6 +2,7 @@ pub mod CareLemmas
 pub mod EndLemmas
 pub mod InsertLemmas
 pub mod JobLemmas
+pub mod NearestLemmas
 pub mod OthersLemmas
 pub mod RangeLemmas
 pub mod RefusedLemmas

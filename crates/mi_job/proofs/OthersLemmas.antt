@@ -1,10 +1,14 @@
 -- Jobs and the splitter while others act.
-use Rattle.std.proofs.Common.{◌≡◌, ℕ, ◌≤◌, List, Bool, false, Option, Some, None, ◌∙◌, arith}
+use Rattle.std.proofs.Common.{◌≡◌, ℕ, ◌≤◌, List, Bool, false, Option, Some, None, ◌∙◌, refl, arith}
 use Rattle.mi_base.specs.History.{Entered}
 use Rattle.mi_world.specs.View.{View, Others}
 use Rattle.mi_blink.specs.declared.turns.Why.{Why as Reason}
 use Rattle.mi_blink.specs.declared.turns.Why.TheVariants.{NoPages, Memory}
 use Rattle.mi_blink.proofs.PostLemmas.{owes_only_stays}
+use Rattle.mi_nearest.specs.declared.nearest.NearestState.{NearestState}
+use Rattle.mi_nearest.specs.declared.nearest.NearestState.TheVariants as near
+use Rattle.mi_nearest.specs.Querying as nearing
+use Rattle.mi_nearest.proofs.OthersLemmas as nears
 use Rattle.mi_range.specs.declared.range.RangeState.{RangeState}
 use Rattle.mi_range.specs.declared.range.RangeState.TheVariants as ranged
 use Rattle.mi_range.specs.Querying as ranging
@@ -25,10 +29,10 @@ use Rattle.mi_job.specs.declared.care.Task.{Task}
 use Rattle.mi_job.specs.declared.care.Task.TheVariants.{Sweep, Split}
 use Rattle.mi_job.specs.declared.job.Job.{Job}
 use Rattle.mi_job.specs.declared.job.Operation.{Operation}
-use Rattle.mi_job.specs.declared.job.Operation.TheVariants.{Insert, Delete, Range}
+use Rattle.mi_job.specs.declared.job.Operation.TheVariants.{Insert, Delete, Range, Nearest}
 use Rattle.mi_job.specs.Caring as caring
 use Rattle.mi_job.specs.Inserts as inserts
-use Rattle.mi_job.specs.Jobs.{EarlyIs, OperationIsReady, Ready, Since, pending, since_in, since_of}
+use Rattle.mi_job.specs.Jobs.{EarlyIs, OperationIsReady, Ready, Since, Ticked, least_spent, most_spent, pending, since_in, since_of}
 use Rattle.mi_job.proofs.InsertLemmas.{early_stays}
 
 module _ (v w : View) (o : Others v w) where
@@ -56,6 +60,16 @@ module _ (v w : View) (o : Others v w) where
       unsplit = o.same.work.apart.split.splitting ∙ h.2.unsplit;
     },
   )
+  operation_stays (Nearest nearest number) b h = (
+    nears.ready_stays nearest v w o h.0,
+    h.1,
+    record {
+      shard = o.same.work.update.shard ∙ h.2.shard;
+      leaf = o.same.work.leaf.leaf ∙ h.2.leaf;
+      sweep = o.same.work.apart.sweep.sweep ∙ h.2.sweep;
+      unsplit = o.same.work.apart.split.splitting ∙ h.2.unsplit;
+    },
+  )
 
   pub job_stays : (job : Job) → Ready job v → Ready job w
   job_stays job h = record { operation = operation_stays job.operation job.begun h.operation }
@@ -70,10 +84,18 @@ module _ (v w : View) (o : Others v w) where
   range_rises (ranged.Ending cells at) = omega arith
   range_rises ranged.Over = seen_more v w o.later
 
+  nearest_rises : (s : NearestState) → nearing.since_at s v ≤ nearing.since_at s w
+  nearest_rises near.Begin = seen_more v w o.later
+  nearest_rises (near.Walking opened root at walk) = omega arith
+  nearest_rises (near.Ending cells at) = omega arith
+  nearest_rises near.Refusing = seen_more v w o.later
+  nearest_rises near.Over = seen_more v w o.later
+
   rises : (x : Operation) (b : Bool) → OperationIsReady x b v → since_of x v ≤ since_of x w
   rises (Insert job) b h = insert_rises job.insert job.split h.next
   rises (Delete op) b h = updates.delete_since_rises op v w o h.0
   rises (Range range number) b h = range_rises range.state
+  rises (Nearest nearest number) b h = nearest_rises nearest.state
 
   pub since_rises : (job : Job) → Ready job v → since_in job v ≤ since_in job w
   since_rises job h = rises job.operation job.begun h.operation
@@ -117,6 +139,7 @@ module _ (v w : View) (o : Others v w) where
   early_job (Insert job) early h = early_insert job.insert job.split early h
   early_job (Delete op) early h = same_early ∙ h
   early_job (Range range number) early h = same_early ∙ h
+  early_job (Nearest nearest number) early h = same_early ∙ h
 
   pub since_stays : (job : Job) (own : List Entered) (from : ℕ) (owed : ℕ → Bool) (early : Bool) → Ready job v → Since own from owed early job v → Since own from owed early job w
   since_stays job own from owed early h s = record {
@@ -125,6 +148,17 @@ module _ (v w : View) (o : Others v w) where
     owes = owes_only_stays owed (pending job.operation) v w o.later o.same.owes s.owes;
     early_is = early_job job.operation early s.early_is;
   }
+
+  spent_same : (x : Operation) (b : Bool) → OperationIsReady x b v → (most_spent x w ≡ most_spent x v) × (least_spent x w ≡ least_spent x v)
+  spent_same (Insert job) b h = (refl, refl)
+  spent_same (Delete op) b h = (refl, refl)
+  spent_same (Range range number) b h = (refl, refl)
+  spent_same (Nearest nearest number) b h = nears.spent_stays nearest v w o h.0
+
+  pub ticked_stays : (job : Job) (first k : ℕ) → Ready job v → Ticked first job v k → Ticked first job w k
+  ticked_stays job first k r h =
+      let same = spent_same job.operation job.begun r.operation in
+      (rw same.1 h.0, rw same.0 h.1)
 
   task_stays : (task : Option Task) → caring.TaskIsReady task v → caring.TaskIsReady task w
   task_stays None h = (o.same.work.leaf.leaf ∙ h.0, o.same.work.apart.sweep.sweep ∙ h.1, o.same.work.apart.split.splitting ∙ h.2)

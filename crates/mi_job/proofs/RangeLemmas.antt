@@ -31,11 +31,11 @@ use Rattle.mi_update.proofs.SteppingLemmas.{seen_more}
 use Rattle.mi_job.specs.declared.job.Operation.TheVariants.{Range}
 use Rattle.mi_job.specs.declared.turns.JobTurn.{JobTurn}
 use Rattle.mi_job.specs.declared.turns.JobTurn.TheVariants.{More, Done}
-use Rattle.mi_job.specs.Jobs.{ClaimsAtMostPin, Tells, TellsComputed, Turned, is_begun}
+use Rattle.mi_job.specs.Jobs.{ClaimsAtMostPin, Tells, TellsSpent, Turned, range_begun}
 
 -- a query that goes on has been begun, and its position is that of its pin
 record GoesFrom (new : RangeState) (events : ℕ) (w : View) : Type 0 where
-  begun : is_begun new ≡ true
+  begun : range_begun new ≡ true
   since : since_at new w ≡ events
 
 opens : (dq : List ℕ) (radius levels : ℕ) (leaves : List Leaf) (from cells root : ℕ) (at : Position) (w : View) (new : RangeState) → OpensNext dq radius levels leaves from cells root at new
@@ -59,7 +59,7 @@ module _ (i j : RangeOp) (v w : View) (ready : StateIsReady j.state j w) where
   from_visit place cells root at walking.More walk e = record { begun = rw e refl; since = rw e refl }
   from_visit place cells root at walking.Done walk h = opens _ _ _ _ _ _ _ at w j.state h
 
-  goes_from : (s : RangeState) → ranging.Makes s i v j.state w → GoesFrom j.state (cond (is_begun s) (since_at s v) (length w.seen)) w
+  goes_from : (s : RangeState) → ranging.Makes s i v j.state w → GoesFrom j.state (cond (range_begun s) (since_at s v) (length w.seen)) w
   goes_from Begin m = from_pin m.0 m.1 m.2
   goes_from (Walking place cells root at walk) (inl r) = from_visit place cells root at r.answer r.walk_after r.follows
   goes_from (Walking place cells root at walk) (inr m) = not_over (events_at at) m.1
@@ -69,17 +69,17 @@ module _ (i j : RangeOp) (v w : View) (ready : StateIsReady j.state j w) where
 -- what the last reply of a query tells
 record Answers (i : RangeOp) (k : ℕ) (s : RangeState) (v w : View) (y : Reply) : Type 0 where
   number : number_told y ≡ None
-  computed : TellsComputed (Range i k) y
-  pinned : MatchOption (reach w.seen y) (Unit {0}) (λ n. n ≡ cond (is_begun s) (since_at s v) (length w.seen))
+  spent : TellsSpent (Range i k) v w y
+  pinned : MatchOption (reach w.seen y) (Unit {0}) (λ n. n ≡ cond (range_begun s) (since_at s v) (length w.seen))
 
 module _ (i : RangeOp) (k : ℕ) (v w : View) where
   no_answer : (s : RangeState) (y : Reply) → y ≡ reply.Memory → Answers i k s v w y
-  no_answer s y e = rw e (record { number = refl; computed = tt; pinned = tt })
+  no_answer s y e = rw e (record { number = refl; spent = tt; pinned = tt })
 
   answers : (s : RangeState) (y : Reply) → ranging.Tells s i.work y → Answers i k s v w y
   answers Begin y h = no_answer Begin y h
   answers (Walking place cells root at walk) y h = no_answer (Walking place cells root at walk) y h
-  answers (Ending cells at) (reply.Range p rows c distances) h = record { number = refl; computed = h.2; pinned = ap events_at h.0 }
+  answers (Ending cells at) (reply.Range p rows c distances) h = record { number = refl; spent = h.2; pinned = ap events_at h.0 }
   answers (Ending cells at) (reply.Stored n) h = absurd h
   answers (Ending cells at) (reply.Removed n) h = absurd h
   answers (Ending cells at) (reply.Present p) h = absurd h
@@ -90,7 +90,7 @@ module _ (i : RangeOp) (k : ℕ) (v w : View) where
   answers (Ending cells at) (reply.Nearest p rows c) h = absurd h
   answers Over y h = absurd h
 
-module _ (i j : RangeOp) (k : ℕ) (b : Bool) (v w : View) (ready : ranging.Ready i v) (begun : b ≡ is_begun i.state) (claims : ClaimsAtMostPin v) where
+module _ (i j : RangeOp) (k : ℕ) (b : Bool) (v w : View) (ready : ranging.Ready i v) (begun : b ≡ range_begun i.state) (claims : ClaimsAtMostPin v) where
   range_more : ranging.Turned i v turn.More j w → Turned (record { operation = Range i k; begun = b }) v More (record { operation = Range j k; begun = true }) w
   range_more t =
       let from = goes_from i j v w t.outcome.0.state i.state t.makes in
@@ -141,7 +141,7 @@ module _ (i j : RangeOp) (k : ℕ) (b : Bool) (v w : View) (ready : ranging.Read
           right = λ allotted told. right allotted;
           not_before = t.outcome.4;
           pinned = λ q. rw begun a.pinned;
-          computed_are = a.computed;
+          spent = a.spent;
           number_is = a.number;
           accepted_is = refl;
           none_pending = λ p. refl;

@@ -41,7 +41,7 @@ use Rattle.mi_update.specs.Inserting as inserting
 use Rattle.mi_update.specs.Inserting.{Follows, refusal_of}
 use Rattle.mi_job.specs.declared.inserts.InsertJob.{InsertJob}
 use Rattle.mi_job.specs.declared.job.Operation.{Operation}
-use Rattle.mi_job.specs.declared.job.Operation.TheVariants.{Insert, Delete, Range}
+use Rattle.mi_job.specs.declared.job.Operation.TheVariants.{Insert, Delete, Range, Nearest}
 use Rattle.mi_job.specs.declared.turns.JobTurn.{JobTurn}
 use Rattle.mi_job.specs.declared.turns.JobTurn.TheVariants.{More, Done}
 use Rattle.mi_job.specs.Inserts as inserts
@@ -267,8 +267,10 @@ module _ (v w : View) where
   refused_then (Insert i) (Insert j) b answer r m h = of_operation (Insert i) (insert_since i.insert i.split j answer r.next m.makes h)
   refused_then (Delete d) (Insert j) b answer r m h = absurd m
   refused_then (Range q k) (Insert j) b answer r m h = absurd m
+  refused_then (Nearest q k) (Insert j) b answer r m h = absurd m
   refused_then x (Delete d) b answer r m h = absurd (search rules)
   refused_then x (Range q k) b answer r m h = absurd (search rules)
+  refused_then x (Nearest q k) b answer r m h = absurd (search rules)
 
   some_reply : (y z : Reply) → Done y ≡ Done z → y ≡ z
   some_reply y z e = cc
@@ -307,5 +309,7 @@ module _ (v w : View) where
   told_then (Insert i) (Insert j) answer m h = told_insert i.insert i.split j answer m.makes
   told_then (Insert i) (Delete d) answer m h = absurd m
   told_then (Insert i) (Range q k) answer m h = absurd m
+  told_then (Insert i) (Nearest q k) answer m h = absurd m
   told_then (Delete d) y answer m h = told_other (op.Delete d.id) d.op answer h (λ n r. r w.settings.pages (λ t. refl))
   told_then (Range q k) y answer m h = told_other (op.Range q.radius q.query) k answer h (λ n r. r w.settings.pages (λ t. refl))
+  told_then (Nearest q k) y answer m h = told_other (op.Nearest q.count q.query) k answer h (λ n r. r w.settings.pages (λ t. refl))

@@ -33,7 +33,7 @@ use Rattle.mi_update.specs.Inserting as inserting
 use Rattle.mi_update.specs.Inserting.{Follows}
 use Rattle.mi_job.specs.declared.inserts.InsertJob.{InsertJob}
 use Rattle.mi_job.specs.declared.job.Operation.{Operation}
-use Rattle.mi_job.specs.declared.job.Operation.TheVariants.{Insert, Delete, Range}
+use Rattle.mi_job.specs.declared.job.Operation.TheVariants.{Insert, Delete, Range, Nearest}
 use Rattle.mi_job.specs.declared.turns.JobTurn.{JobTurn}
 use Rattle.mi_job.specs.Inserts as inserts
 use Rattle.mi_job.specs.Jobs as jobs
@@ -166,5 +166,7 @@ module _ (v w : View) (answer : JobTurn) (page : ℕ) where
   full_found (Insert i) (Insert j) m h = full_insert i.insert i.split j m.makes h
   full_found (Delete d) (Insert j) m h = absurd m
   full_found (Range r k) (Insert j) m h = absurd m
+  full_found (Nearest r k) (Insert j) m h = absurd m
   full_found x (Delete d) m h = cc
   full_found x (Range r k) m h = cc
+  full_found x (Nearest r k) m h = cc

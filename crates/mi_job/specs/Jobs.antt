@@ -10,11 +10,15 @@ use Rattle.mi_base.specs.Permutations.{distances}
 use Rattle.mi_base.specs.Space.{Space}
 use Rattle.mi_legal.specs.Legal.{accepted_update, reach}
 use Rattle.mi_legal.specs.Want.{is_memory}
+use Rattle.mi_legal.specs.Work.{objects_reached}
 use Rattle.mi_world.specs.View.{View, Later, SameActors}
 use Rattle.mi_blink.specs.declared.turns.Turn.{Turn}
 use Rattle.mi_blink.specs.declared.turns.Turn.TheVariants as turn
 use Rattle.mi_blink.specs.Descents.{Falls, longest}
 use Rattle.mi_blink.specs.Posting.{OwesOnly}
+use Rattle.mi_nearest.specs.declared.nearest.NearestState.{NearestState}
+use Rattle.mi_nearest.specs.declared.nearest.NearestState.TheVariants as near
+use Rattle.mi_nearest.specs.Querying as nearing
 use Rattle.mi_range.specs.declared.range.RangeState.{RangeState}
 use Rattle.mi_range.specs.declared.range.RangeState.TheVariants as ranged
 use Rattle.mi_range.specs.Querying as ranging
@@ -25,7 +29,7 @@ use Rattle.mi_update.specs.Inserting as inserting
 use Rattle.mi_update.specs.Stepping.{number_told}
 use Rattle.mi_job.specs.declared.job.Job.{Job}
 use Rattle.mi_job.specs.declared.job.Operation.{Operation}
-use Rattle.mi_job.specs.declared.job.Operation.TheVariants.{Insert, Delete, Range}
+use Rattle.mi_job.specs.declared.job.Operation.TheVariants.{Insert, Delete, Range, Nearest}
 use Rattle.mi_job.specs.declared.turns.JobTurn.{JobTurn}
 use Rattle.mi_job.specs.declared.turns.JobTurn.TheVariants.{More, Held, Done}
 use Rattle.mi_job.specs.Claims.{ClaimsNone, IsHeld}
@@ -38,11 +42,6 @@ is_query (op.Delete id) = false
 is_query (op.Range radius query) = true
 is_query (op.Nearest count query) = true
 
--- the operation asks for the nearest objects
-abbrev pub is_nearest : Op → Bool
-is_nearest (op.Nearest count query) = true
-is_nearest o = false
-
 -- how many distances are measured when the operation is made: those of an insert's vector to the pivots
 abbrev pub measured_for : Op → List (List ℤ) → ℕ
 measured_for (op.Insert id vector) pivots = length pivots
@@ -53,11 +52,13 @@ abbrev pub asked_by : Operation → Op
 asked_by (Insert job) = inserting.asked job.insert
 asked_by (Delete delete) = deleting.asked delete
 asked_by (Range range number) = op.Range range.radius range.query
+asked_by (Nearest nearest number) = op.Nearest nearest.count nearest.query
 
 abbrev pub numbered : Operation → ℕ
 numbered (Insert job) = job.insert.op
 numbered (Delete delete) = delete.op
 numbered (Range range number) = number
+numbered (Nearest nearest number) = number
 
 abbrev pub asked : Job → Op
 asked job = asked_by job.operation
@@ -70,6 +71,7 @@ abbrev pub OperationIsBegun : Operation → Op → ℕ → Space → Type 0
 OperationIsBegun (Insert job) (op.Insert id vector) number space = inserting.Begun job.insert id vector (distances space vector) number × (job.split ≡ None)
 OperationIsBegun (Delete delete) (op.Delete id) number space = deleting.Begun delete id number
 OperationIsBegun (Range range k) (op.Range radius query) number space = ranging.Begun range radius query × (k ≡ number)
+OperationIsBegun (Nearest nearest k) (op.Nearest count query) number space = nearing.Begun nearest count query × (k ≡ number)
 OperationIsBegun operation o number space = ⊥
 
 pub record Begun (job : Job) (o : Op) (number : ℕ) (space : Space) : Type 0 where
@@ -77,9 +79,13 @@ pub record Begun (job : Job) (o : Op) (number : ℕ) (space : Space) : Type 0 wh
   pub not_yet : job.begun ≡ false
 
 -- a query was begun: its pin was made, or was refused
-abbrev pub is_begun : RangeState → Bool
-is_begun ranged.Begin = false
-is_begun state = true
+abbrev pub range_begun : RangeState → Bool
+range_begun ranged.Begin = false
+range_begun state = true
+
+abbrev pub nearest_begun : NearestState → Bool
+nearest_begun near.Begin = false
+nearest_begun state = true
 
 -- the actor of a query claims nothing, and has no split under way
 pub record ClaimsAtMostPin (v : View) : Type 0 where
@@ -92,7 +98,8 @@ pub record ClaimsAtMostPin (v : View) : Type 0 where
 abbrev pub OperationIsReady : Operation → Bool → View → Type 0
 OperationIsReady (Insert job) begun v = inserts.Ready job v
 OperationIsReady (Delete delete) begun v = deleting.Ready delete v × (v.pin ≡ None)
-OperationIsReady (Range range number) begun v = ranging.Ready range v × (begun ≡ is_begun range.state) × ClaimsAtMostPin v
+OperationIsReady (Range range number) begun v = ranging.Ready range v × (begun ≡ range_begun range.state) × ClaimsAtMostPin v
+OperationIsReady (Nearest nearest number) begun v = nearing.Ready nearest v × (begun ≡ nearest_begun nearest.state) × ClaimsAtMostPin v
 
 pub record Ready (job : Job) (v : View) : Type 0 where
   pub operation : OperationIsReady job.operation job.begun v
@@ -101,7 +108,7 @@ pub record Ready (job : Job) (v : View) : Type 0 where
 abbrev pub number_of : Operation → Option ℕ
 number_of (Insert job) = inserting.number_in job.insert
 number_of (Delete delete) = deleting.number_in delete
-number_of (Range range number) = None
+number_of query = None
 
 abbrev pub number_in : Job → Option ℕ
 number_in job = number_of job.operation
@@ -111,6 +118,7 @@ abbrev pub since_of : Operation → View → ℕ
 since_of (Insert job) v = inserting.since_in job.insert v
 since_of (Delete delete) v = deleting.since_in delete v
 since_of (Range range number) v = ranging.since_at range.state v
+since_of (Nearest nearest number) v = nearing.since_at nearest.state v
 
 abbrev pub since_in : Job → View → ℕ
 since_in job v = since_of job.operation v
@@ -130,6 +138,7 @@ abbrev pub left_of : Operation → View → ℕ
 left_of (Insert job) v = inserts.left job v
 left_of (Delete delete) v = deleting.left delete v
 left_of (Range range number) v = ranging.left range v
+left_of (Nearest nearest number) v = nearing.left nearest v
 
 abbrev pub left : Job → View → ℕ
 left job v = left_of job.operation v
@@ -180,22 +189,33 @@ abbrev pub Makes : Operation → View → JobTurn → Operation → View → Typ
 Makes (Insert old) v answer (Insert new) w = inserts.Turned old v answer new w
 Makes (Delete old) v answer (Delete new) w = (told : Turn) × deleting.Turned old v told new w × Tells told answer
 Makes (Range old k) v answer (Range new n) w = (told : Turn) × ranging.Turned old v told new w × Tells told answer × (n ≡ k)
+Makes (Nearest old k) v answer (Nearest new n) w = (told : Turn) × nearing.Turned old v told new w × Tells told answer × (n ≡ k)
 Makes old v answer new w = ⊥
 
--- how many distances a query has computed
-abbrev pub computed : Operation → ℕ
-computed (Range range number) = ranging.computed range.work
-computed operation = 0
+-- how many distances a query has computed, at least and at most
+abbrev pub least_spent : Operation → View → ℕ
+least_spent (Range range number) v = ranging.computed range.work
+least_spent (Nearest nearest number) v = nearing.least_at nearest.state v
+least_spent operation v = 0
+
+abbrev pub most_spent : Operation → View → ℕ
+most_spent (Range range number) v = ranging.computed range.work
+most_spent (Nearest nearest number) v = nearing.most nearest v
+most_spent operation v = 0
 
 -- each distance is one step
-abbrev pub Ticks : Job → ℕ → JobTurn → Job → ℕ → Type 0
-Ticks old k More new n = n + computed old.operation ≡ k + computed new.operation
-Ticks old k answer new n = n ≡ k
+abbrev pub Ticks : Job → View → ℕ → JobTurn → Job → View → ℕ → Type 0
+Ticks old v k More new w n = (k + least_spent new.operation w ≤ n + least_spent old.operation v) × (n + most_spent old.operation v ≤ k + most_spent new.operation w)
+Ticks old v k answer new w n = n ≡ k
 
--- the distances that the answer to a range query tells are those that were computed
-abbrev pub TellsComputed : Operation → Reply → Type 0
-TellsComputed operation (reply.Range p rows cells distances) = distances ≡ computed operation
-TellsComputed operation y = Unit {0}
+-- The distances that the answer to a range query tells are those that were computed. For the nearest there is one for each pivot at least, and
+-- at most one more for each object of the leaves that had to be opened.
+abbrev pub TellsSpent : Operation → View → View → Reply → Type 0
+TellsSpent (Range range number) v w (reply.Range p rows cells distances) = distances ≡ ranging.computed range.work
+TellsSpent (Nearest nearest number) v w (reply.Nearest p rows cells) =
+    (length w.settings.pivots ≤ nearing.least_at nearest.state v)
+    × (nearing.most nearest v ≤ length w.settings.pivots + objects_reached w.settings w.seen nearest.count nearest.query (reply.Nearest p rows cells))
+TellsSpent operation v w y = Unit {0}
 
 -- how many events the position of a query's reply has: those of the log that its first section leaves, which is its pin
 abbrev pub pinned_in : Job → View → View → ℕ
@@ -207,7 +227,7 @@ pub record Finishes (old : Job) (v : View) (y : Reply) (new : Job) (w : View) : 
   pub right : IsRight (asked old) (op_number old) w y
   pub not_before : MatchOption (reach w.seen y) (Unit {0}) (λ n. since_in old v ≤ n)
   pub pinned : is_query (asked old) ≡ true → MatchOption (reach w.seen y) (Unit {0}) (λ n. n ≡ pinned_in old v w)
-  pub computed_are : TellsComputed old.operation y
+  pub spent : TellsSpent old.operation v w y
   pub number_is : number_told y ≡ number_in new
   pub accepted_is : accepted_update w.actor (op_number old) (asked old) y ≡ added new w
   pub none_pending : (p : ℕ) → pending new.operation p ≡ false
@@ -245,8 +265,8 @@ pub record Since (own : List Entered) (from : ℕ) (owed : ℕ → Bool) (early 
   pub early_is : EarlyIs job.operation early v
 
 -- as many steps were taken since as distances were computed
-abbrev pub Ticked : ℕ → Job → ℕ → Type 0
-Ticked first job k = k ≡ first + computed job.operation
+abbrev pub Ticked : ℕ → Job → View → ℕ → Type 0
+Ticked first job v k = (first + least_spent job.operation v ≤ k) × (k ≤ first + most_spent job.operation v)
 
 -- An operation from its first section to its last: the reply is right in the log seen, and its position isn't before so many events; the
 -- actor's own updates are those of the beginning and what the reply accepts; it claims nothing, and has no pin and no split under way; it owes

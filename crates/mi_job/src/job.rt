@@ -1,15 +1,16 @@
 //! One operation of a script with its help.
-ghost use Rattle.std.specs.Prelude.{◌≡◌, ◌+◌, false, IsTrue};
+ghost use Rattle.std.specs.Prelude.{◌≡◌, ◌+◌, IsTrue};
 ghost use Rattle.std.specs.List.{AllByRecursion};
 ghost use Rattle.mi_base.specs.Configuration.{metric_space};
 ghost use Rattle.mi_base.specs.Scripts.{IsOpOver};
-ghost use Rattle.mi_job.specs.Jobs.{Begun, IsNotCrowded, Ready, Tells, Ticks, Turned, is_nearest, measured_for};
+ghost use Rattle.mi_job.specs.Jobs.{Begun, IsNotCrowded, Ready, Tells, Ticks, Turned, measured_for};
 
 use crate::JobTurn;
 use crate::inserts::InsertJob;
 use mi_base::{Op, Steps};
 use mi_blink::Turn;
 use mi_metric::Metric;
+use mi_nearest::NearestOp;
 use mi_perm::Pivots;
 use mi_range::RangeOp;
 use mi_update::{DeleteOp, InsertOp};
@@ -23,6 +24,7 @@ enum Operation {
     Insert { insert: InsertJob },
     Delete { delete: DeleteOp },
     Range { range: RangeOp, number: u32 },
+    Nearest { nearest: NearestOp, number: u32 },
 }
 
 /// One operation of a script. An insert makes the splits that it needs by itself.
@@ -42,7 +44,6 @@ impl Job {
         pivots: &Pivots,
         steps: &mut Steps<L>,
     ) -> Job
-        requires served { is_nearest op.now ≡ false }
         requires fits { IsOpOver (M.space metric.now) op.now }
         requires pivots { AllByRecursion (λ p. IsTrue ((M.space metric.now).fits p)) pivots.now }
         ensures begun { Begun result op.now number (record { metric = M.space metric.now; pivots = pivots.now }) }
@@ -62,7 +63,10 @@ impl Job {
                 range: RangeOp::new(*radius, query.copy()),
                 number,
             },
-            _ => unreachable!(),
+            Op::Nearest { count, query } => Operation::Nearest {
+                nearest: NearestOp::new(*count, query.copy()),
+                number,
+            },
         };
         Job {
             operation,
@@ -83,7 +87,7 @@ impl Job {
         requires pivots { pivots.now ≡ (W.view world.old).settings.pivots }
         requires ready { Ready self.old (W.view world.old) }
         ensures turned { Turned self.old (W.view world.old) result self.new (W.view world.new) }
-        ensures ticks { Ticks self.old steps.old result self.new steps.new }
+        ensures ticks { Ticks self.old (W.view world.old) steps.old result self.new (W.view world.new) steps.new }
         ensures section { W.section world.old world.new }
     {
         self.begun = true;
@@ -92,6 +96,9 @@ impl Job {
             Operation::Delete { delete } => told(delete.step(world)),
             Operation::Range { range, .. } => {
                 told(range.step(alloc, world, metric, pivots, steps))
+            }
+            Operation::Nearest { nearest, .. } => {
+                told(nearest.step(alloc, world, metric, pivots, steps))
             }
         }
     }

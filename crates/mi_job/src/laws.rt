@@ -1,12 +1,13 @@
 //! What is true of jobs and of the splitter at every view. The functions do nothing.
-ghost use Rattle.std.specs.Prelude.{◌≡◌, ◌≤◌, ◌<◌, ◌+◌, ◌⊎◌, ℕ, Bool, List, None, Some, true, length};
+ghost use Rattle.std.specs.Prelude.{◌≡◌, ◌≤◌, ◌<◌, ◌+◌, ◌⊎◌, ℕ, ℤ, Bool, List, None, Some, true, length};
 ghost use Rattle.mi_base.specs.declared.records.Op.{Op as AnOp};
+ghost use Rattle.mi_base.specs.declared.records.Op.TheVariants.{Range, Nearest};
 ghost use Rattle.mi_base.specs.declared.records.Reply.{Reply as AReply};
 ghost use Rattle.mi_base.specs.Configuration.{metric_space, space_of};
 ghost use Rattle.mi_base.specs.History.{Entered};
 ghost use Rattle.mi_base.specs.Scripts.{IsOpOver};
 ghost use Rattle.mi_base.specs.Space.{Space};
-ghost use Rattle.mi_legal.specs.Work.{Works};
+ghost use Rattle.mi_legal.specs.Work.{Works, WorksNearest};
 ghost use Rattle.mi_world.specs.View.{Others, View};
 ghost use Rattle.mi_split.specs.Splitting.{split_most};
 ghost use Rattle.mi_job.specs.declared.care.Care.{Care as ACare};
@@ -27,30 +28,34 @@ pub fn jobs_begin()
         → Begun job o number (space_of v.settings) → IsOpOver (metric_space v.settings) o → ClaimsNone v → Ready job v }
     ensures since { (job : AJob) (o : AnOp) (number : ℕ) (v : View)
         → Begun job o number (space_of v.settings) → Since v.own (length v.seen) v.owes v.early job v }
-    ensures ticked { (job : AJob) (o : AnOp) (number : ℕ) (space : Space) (k : ℕ) → Begun job o number space → Ticked k job k }
+    ensures ticked { (job : AJob) (o : AnOp) (number : ℕ) (space : Space) (v : View) (k : ℕ) → Begun job o number space → Ticked k job v k }
 {}
 
 /// Each section of a job keeps what is so since its first, and as many steps are taken as distances are computed.
 pub fn jobs_go_on()
     ensures since { (own : List Entered) (from : ℕ) (owed : ℕ → Bool) (early : Bool) (old new : AJob) (v w : View) (answer : ATurn)
         → Turned old v answer new w → Since own from owed early old v → Since own from owed early new w }
-    ensures more { (first : ℕ) (old new : AJob) (k n : ℕ) → Ticks old k More new n → Ticked first old k → Ticked first new n }
-    ensures held { (first : ℕ) (old new : AJob) (v w : View) (k n : ℕ) → Turned old v Held new w → Ticks old k Held new n → Ticked first old k → Ticked first new n }
+    ensures more { (first : ℕ) (old new : AJob) (v w : View) (k n : ℕ) → Ticks old v k More new w n → Ticked first old v k → Ticked first new w n }
+    ensures held { (first : ℕ) (old new : AJob) (v w : View) (k n : ℕ) → Turned old v Held new w → Ticks old v k Held new w n → Ticked first old v k → Ticked first new w n }
 {}
 
 /// While others act a job stays ready, and so does what is so since its first section.
 pub fn jobs_wait()
     ensures ready { (job : AJob) (v w : View) → Others v w → Ready job v → Ready job w }
     ensures rises { (job : AJob) (v w : View) → Others v w → Ready job v → since_in job v ≤ since_in job w }
+    ensures ticked { (job : AJob) (v w : View) → Others v w → (first k : ℕ) → Ready job v → Ticked first job v k → Ticked first job w k }
     ensures since { (job : AJob) (v w : View) → Others v w → (own : List Entered) (from : ℕ) (owed : ℕ → Bool) (early : Bool)
         → Ready job v → Since own from owed early job v → Since own from owed early job w }
 {}
 
-/// What is so at a job's end, and how many steps a range query has taken.
+/// What is so at a job's end, and how many steps a query has taken.
 pub fn jobs_end()
     ensures ended { (own : List Entered) (from : ℕ) (owed : ℕ → Bool) (early : Bool) (old new : AJob) (v w : View) (y : AReply)
         → Turned old v (Done y) new w → Since own from owed early old v → Ended (asked old) (op_number old) own from owed early w y }
-    ensures works { (first : ℕ) (old new : AJob) (v w : View) (k n : ℕ) (y : AReply) → Turned old v (Done y) new w → Ticks old k (Done y) new n → Ticked first old k → Works first y n }
+    ensures range { (first : ℕ) (old new : AJob) (v w : View) (k n : ℕ) (y : AReply) (radius : ℕ) (query : List ℤ) → Turned old v (Done y) new w → Ticks old v k (Done y) new w n
+        → Ticked first old v k → asked old ≡ Range radius query → Works first y n }
+    ensures nearest { (first : ℕ) (old new : AJob) (v w : View) (k n : ℕ) (y : AReply) (count : ℕ) (query : List ℤ) → Turned old v (Done y) new w → Ticks old v k (Done y) new w n
+        → Ticked first old v k → asked old ≡ Nearest count query → WorksNearest w.settings w.seen count query first y n }
 {}
 
 /// A page is wanted only for a leaf page that was found full, with none in hand. An insert is answered that there are no pages exactly where the
