@@ -1,5 +1,5 @@
 -- A run of the core as a list of turns, and operations in it.
-use Rattle.std.specs.Prelude.{◌≡◌, ◌≤◌, ◌+◌, ◌==◌, ◌&&◌, ◌||◌, ◌++◌, [], ◌∷◌, ℕ, Bool, true, false, cond, not, List, Option, Some, None, MatchOption, length, slice_get}
+use Rattle.std.specs.Prelude.{◌≡◌, ◌≤◌, ◌+◌, ◌⊎◌, ◌==◌, ◌&&◌, ◌||◌, ◌++◌, [], ◌∷◌, ℕ, Bool, true, false, cond, not, List, Option, Some, None, MatchOption, length, slice_get}
 use Rattle.std.specs.List.{filter, fold}
 use Rattle.mi_base.specs.declared.records.LogEvent.{LogEvent}
 use Rattle.mi_base.specs.declared.records.LogEvent.TheVariants as event
@@ -10,6 +10,7 @@ use Rattle.mi_base.specs.declared.records.Update.TheVariants as update
 use Rattle.mi_base.specs.Configuration.{Configuration}
 use Rattle.mi_base.specs.History.{updates_of}
 use Rattle.mi_core.specs.Events.{Event, Leads}
+use Rattle.mi_core.specs.Events.Event.{see}
 use Rattle.mi_core.specs.State.{State}
 use Rattle.mi_job.specs.Jobs.{is_query}
 use Rattle.mi_legal.specs.Legal.{reach}
@@ -26,10 +27,22 @@ pub record Turn : Type 0 where
   pub before : State
   pub after : State
 
--- the actor's event leads from one state to the other, or nothing has changed
-abbrev pub Makes : Option Event → State → ℕ → State → Type 0
-Makes None s a t = t ≡ s
-Makes (Some e) s a t = (leads : Leads s a t) × (leads.event ≡ e)
+-- the actor's event leads from one state to the other
+abbrev pub LeadsBy : Event → State → ℕ → State → Type 0
+LeadsBy e s a t = (leads : Leads s a t) × (leads.event ≡ e)
+
+-- An actor that comes to its turn may see the whole log, which changes its own record alone. Then its event leads on, or nothing more changes.
+abbrev pub ComesTo : State → ℕ → State → Type 0
+ComesTo s a m = (m ≡ s) ⊎ LeadsBy see s a m
+
+abbrev pub Goes : Option Event → State → ℕ → State → Type 0
+Goes None m a t = t ≡ m
+Goes (Some e) m a t = LeadsBy e m a t
+
+pub record Makes (event : Option Event) (s : State) (a : ℕ) (t : State) : Type 0 where
+  pub between : State
+  pub comes : ComesTo s a between
+  pub goes : Goes event between a t
 
 -- each turn begins in the state that the turn before it left, and makes at most one event, which is its actor's
 abbrev pub Chained : State → List Turn → State → Type 0
