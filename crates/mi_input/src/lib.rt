@@ -13,6 +13,7 @@ mod tables;
 mod vectors;
 
 pub use faults::{InputFault, Reason};
+pub use numbers::count;
 pub use schedules::read_schedule;
 pub use scripts::read_script;
 pub use settings::read_settings;

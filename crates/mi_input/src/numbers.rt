@@ -61,9 +61,9 @@ pub(crate) fn whole(field: &[u8], least: i64, most: i64) -> Result<i64, Reason>
     Ok(number as i64)
 }
 
-/// The same where the bounds have no sign.
+/// The number in a field, within these bounds, which have no sign.
 #[tactic(auto, unfolding(crate::specs::Numbers::count_in, crate::specs::Numbers::whole_in))]
-pub(crate) fn count(field: &[u8], least: u64, most: u64) -> Result<u64, Reason>
+pub fn count(field: &[u8], least: u64, most: u64) -> Result<u64, Reason>
     ensures value { result ≡ count_in least most field.now }
     ensures bounds { IfOk result (λ number. (least ≤ number) × (number ≤ most)) }
 {

@@ -1,7 +1,7 @@
 pub mod CutLemmas
 pub mod EventLemmas
 pub mod LineLemmas
-mod LoopLemmas
+pub mod LoopLemmas
 pub mod MeaningLemmas
 pub mod NumberLemmas
 pub mod ReplyLemmas

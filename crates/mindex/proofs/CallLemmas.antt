@@ -21,11 +21,11 @@ use Rattle.mindex.specs.declared.refusals.Refusal.TheVariants.{Record, Table}
 use Rattle.mindex.specs.declared.refusals.Stop.{Stop}
 use Rattle.mindex.specs.declared.refusals.Stop.TheVariants.{Refused, Unread, Memory}
 use Rattle.mindex.specs.declared.loading.Loaded.{Loaded}
-use Rattle.mindex.specs.Calls.{Answered, Answers, Completes, Ends, IsRunNumber, IsWant, Replayed, RunsTo, SaysOf, Serves, Tells, transcript_status, usage_line}
+use Rattle.mindex.specs.Calls.{Answered, Answers, Completes, Ends, IsRunNumber, IsWant, Replayed, RunsTo, Says, SaysOf, Serves, Tells, transcript_status, usage_line}
 use Rattle.mindex.specs.declared.statuses.Status.{Status}
 use Rattle.mindex.specs.declared.statuses.Status.TheVariants as status
 use Rattle.mindex.specs.Statuses.{status_number}
-use Rattle.mindex.specs.Inputs.{AreTextsOf, IsTextOf, GoodBefore, Inputs, Names, Texts, settings_or_fault, in_file, inputs_of, names_in, schedule_of, script_of, settings_of}
+use Rattle.mindex.specs.Inputs.{AreTextsOf, IsTextOf, GoodBefore, Inputs, Names, Texts, settings_or_fault, in_file, inputs_of, names_in, schedule_of, script_of, settings_from, settings_of}
 use Rattle.mindex.specs.Loading.{Finds, FindsAll, HasMetric, Loads, LoadsAll, MayRun, inputs_in, stop_line, stop_status}
 use Rattle.mi_plain.specs.Outcomes.{IsOutcomeOf}
 use Rattle.mindex.proofs.LoadingLemmas.{LoadsAt, some_text, some_text_is}
@@ -62,8 +62,17 @@ runs_to l o said is said_is = record {
 }
 
 -- settings without a fault, and with one
+pub good_settings : (text : List ℕ) (c : Configuration) → in_file 0 settings_in text ≡ Ok c → first_fault c.rows ≡ None → settings_from text ≡ Ok c
+good_settings text c found none = ap (λ r. r >>= λ d. settings_or_fault d (first_fault d.rows)) found ∙ ap (settings_or_fault c) none
+
+pub bad_settings : (text : List ℕ) (refusal : Refusal) → in_file 0 settings_in text ≡ Err refusal → settings_from text ≡ Err refusal
+bad_settings text refusal found = ap (λ r. r >>= λ d. settings_or_fault d (first_fault d.rows)) found
+
+pub bad_table : (text : List ℕ) (c : Configuration) (fault : TableFault) → in_file 0 settings_in text ≡ Ok c → first_fault c.rows ≡ Some fault → settings_from text ≡ Err (Table fault)
+bad_table text c fault found first = ap (λ r. r >>= λ d. settings_or_fault d (first_fault d.rows)) found ∙ ap (settings_or_fault c) first
+
 settings_good : (texts : Texts) (c : Configuration) → in_file 0 settings_in texts.settings ≡ Ok c → first_fault c.rows ≡ None → settings_of texts ≡ Ok c
-settings_good texts c found none = ap (λ r. r >>= λ d. settings_or_fault d (first_fault d.rows)) found ∙ ap (settings_or_fault c) none
+settings_good texts c found none = good_settings texts.settings c found none
 
 -- the files after the settings
 abbrev after_settings : Texts → Configuration → Result Inputs Refusal
@@ -73,16 +82,15 @@ abbrev after_schedule : Texts → Configuration → List ScheduleItem → Result
 after_schedule texts c items = script_of c texts >>= λ ops. Ok (record { settings = c; schedule = items; script = ops })
 
 refused_settings : (texts : Texts) (refusal : Refusal) → in_file 0 settings_in texts.settings ≡ Err refusal → inputs_of texts ≡ Err refusal
-refused_settings texts refusal found = ap (λ r. (r >>= λ d. settings_or_fault d (first_fault d.rows)) >>= after_settings texts) found
+refused_settings texts refusal found = ap (λ r. r >>= after_settings texts) (bad_settings texts.settings refusal found)
 
 refused_table : (texts : Texts) (c : Configuration) (fault : TableFault) → in_file 0 settings_in texts.settings ≡ Ok c → first_fault c.rows ≡ Some fault → inputs_of texts ≡ Err (Table fault)
-refused_table texts c fault found first =
-    ap (λ r. (r >>= λ d. settings_or_fault d (first_fault d.rows)) >>= after_settings texts) found ∙ ap (λ o. settings_or_fault c o >>= after_settings texts) first
+refused_table texts c fault found first = ap (λ r. r >>= after_settings texts) (bad_table texts.settings c fault found first)
 
 good_inputs : (texts : Texts) (c : Configuration) → settings_of texts ≡ Ok c → inputs_of texts ≡ after_settings texts c
 good_inputs texts c good = ap (λ r. r >>= after_settings texts) good
 
-is_ok_from : {X : Type 0} (r : Result X Refusal) (x : X) → r ≡ Ok x → IsOk r
+pub is_ok_from : {X : Type 0} (r : Result X Refusal) (x : X) → r ≡ Ok x → IsOk r
 is_ok_from {X} r x e = subst (λ (q : Result X Refusal). IsOk q) (sym e) refl
 
 finds_schedule : (texts : Texts) (f0 f1 f2 : FilesState) (c : Configuration) (s : Stop) → settings_of texts ≡ Ok c → f1.faults ≡ f0.faults → Finds {X = List ScheduleItem} 1 f1 f2 (schedule_of texts) (Err s)
@@ -187,7 +195,7 @@ module _ (names : Names) (f0 : FilesState) where
 
 -- the words aren't served
 pub says_usage : (names : Option Names) (files : FilesState) (old new : SinkState) (ended : Status) → is_some names ≡ false
-    → Ends status.Usage usage_line old new ended → Answers names files files old new ended
+    → Ends status.Usage usage_line old new ended → Answers (Says names) files files old new ended
 says_usage None files old new ended none ends = record { said = status.Usage; text = usage_line; says = (refl, refl, refl); ends = ends; grows = omega arith }
 says_usage (Some names) files old new ended none ends = cc
 
@@ -200,9 +208,9 @@ serves_stop names f0 f1 Memory l = record { texts = l.texts; told = l.told; says
 
 -- there are no inputs
 pub says_stop : (words : Option Names) (names : Names) (f0 f1 : FilesState) (old new : SinkState) (ended : Status) (s : Stop) → words ≡ Some names
-    → LoadsAll names f0 f1 (Err s) → Ends (stop_status s) (stop_line s) old new ended → Answers words f0 f1 old new ended
+    → LoadsAll names f0 f1 (Err s) → Ends (stop_status s) (stop_line s) old new ended → Answers (Says words) f0 f1 old new ended
 says_stop words names f0 f1 old new ended s is l ends =
-    subst (λ w. Answers w f0 f1 old new ended) (sym is)
+    subst (λ w. Answers (Says w) f0 f1 old new ended) (sym is)
     (record { said = stop_status s; text = stop_line s; says = serves_stop names f0 f1 s l; ends = ends; grows = l.grows })
 
 serves_run : (names : Names) (f0 f1 : FilesState) (l : Loaded) (said : Status) (text : List ℕ) → LoadsAll names f0 f1 (Ok l)
@@ -213,9 +221,9 @@ serves_run names f0 f1 l said text all (inr want) = record { texts = all.texts; 
 
 -- the inputs were run
 pub says_run : (words : Option Names) (names : Names) (f0 f1 : FilesState) (old new : SinkState) (ended : Status) (l : Loaded) → words ≡ Some names
-    → LoadsAll names f0 f1 (Ok l) → Replayed (inputs_in l) old new ended → Answers words f0 f1 old new ended
+    → LoadsAll names f0 f1 (Ok l) → Replayed (inputs_in l) old new ended → Answers (Says words) f0 f1 old new ended
 says_run words names f0 f1 old new ended l is all ran =
-    subst (λ w. Answers w f0 f1 old new ended) (sym is)
+    subst (λ w. Answers (Says w) f0 f1 old new ended) (sym is)
     (record { said = ran.said; text = ran.text; says = serves_run names f0 f1 l ran.said ran.text all ran.says; ends = ran.ends; grows = all.grows })
 
 -- the names among the words that are served
@@ -245,7 +253,7 @@ named_words f words a b d names served four first second third settings schedule
     ∙ ap (λ w. Some (record { settings = names.settings; schedule = w; script = get_or (map f words) 3 [] })) (word_at f words 2 b (omega arith) second ∙ sym schedule)
     ∙ ap (λ w. Some (record { settings = names.settings; schedule = names.schedule; script = w })) (word_at f words 3 d (omega arith) third ∙ sym script)
 
-told_text : (told : Option (List ℕ)) (text other : List ℕ) → told ≡ Some text → IsTextOf told other → other ≡ text
+pub told_text : (told : Option (List ℕ)) (text other : List ℕ) → told ≡ Some text → IsTextOf told other → other ≡ text
 told_text told text other is h = subst (λ o. IsTextOf o other) is h
 
 told_inputs : (files : FilesState) (names : Names) (texts others : Texts) → Tells files names texts → AreTextsOf files names others → inputs_of others ≡ inputs_of texts
@@ -266,7 +274,7 @@ said_when_good texts inputs said text good (inr (inl run)) =
 said_when_good texts inputs said text good (inr (inr want)) = inr (inr (ap status_number want.said_is))
 
 -- good inputs are run, unless memory is wanted or a fault is counted
-pub completes : (words : Option Names) (f0 f1 : FilesState) (old new : SinkState) (number : ℕ) → Answered words f0 f1 old new number → Completes words f0 f1 old new number
+pub completes : (words : Option Names) (f0 f1 : FilesState) (old new : SinkState) (number : ℕ) → Answered (Says words) f0 f1 old new number → Completes words f0 f1 old new number
 completes None f0 f1 old new number a = tt
 completes (Some names) f0 f1 old new number a = λ texts inputs tells good still unfailed.
     let says = a.answers.says in

@@ -1,3 +1,4 @@
 pub mod CallLemmas
 pub mod LoadingLemmas
 pub mod MeaningLemmas
+pub mod ChooseLemmas

@@ -1,5 +1,5 @@
 -- What a call may answer, and the text beside it.
-use Rattle.std.specs.Prelude.{◌≡◌, ℕ, zero, suc, ◌≤◌, ◌||◌, Bool, true, false, cond, List, [], ◌∷◌, length, codes, Option, Some, None, Ok, Err, ◌⊎◌}
+use Rattle.std.specs.Prelude.{◌≡◌, ℕ, zero, suc, ◌≤◌, ◌||◌, Bool, true, false, cond, List, [], ◌∷◌, length, codes, Option, Some, None, Result, Ok, Err, ◌⊎◌}
 use Rattle.std.specs.Fmt.{decimal}
 use Rattle.mi_base.specs.declared.records.Reply.{Reply}
 use Rattle.mi_base.specs.declared.records.LogEvent.{LogEvent}
@@ -24,7 +24,7 @@ use Rattle.mi_plain.specs.Answering.{RanAlone}
 use Rattle.mi_legal.specs.Want.{has_memory}
 
 abbrev pub usage_line : List ℕ
-usage_line = line (codes "usage: mindex replay SETTINGS SCHEDULE SCRIPT... | run SETTINGS SCRIPT... | make SEED") []
+usage_line = line (codes "usage: mindex replay SETTINGS SCHEDULE SCRIPT... | run SETTINGS SCRIPT... | make SEED | choose SETTINGS SCRIPT COUNT") []
 
 abbrev pub memory_line : List ℕ
 memory_line = line (codes "memory") []
@@ -82,18 +82,18 @@ pub record IsTranscript (inputs : Inputs) (short : Bool) (text : List ℕ) : Typ
   pub short_is : short ≡ (has_memory replies || given_up)
   pub text_is : text ≡ rendering inputs.settings replies log entries allotted
 
--- a file isn't of its form: the first in the order of the words
-pub record IsRefusal (texts : Texts) (said : Status) (text : List ℕ) : Type 0 where
+-- a file isn't of its form: the first in the order of the words, by what was found in the files
+pub record IsRefusal {X : Type 0} (found : Result X Refusal) (said : Status) (text : List ℕ) : Type 0 where
   pub refusal : Refusal
-  pub first : inputs_of texts ≡ Err refusal
+  pub first : found ≡ Err refusal
   pub said_is : said ≡ refusal_status refusal
   pub text_is : text ≡ refusal_line refusal
 
 -- A file could not be read: the count of faults of the files rose, and each file before the one that is named is good. The count is
 -- one for all files, so that the name is pinned no further: where a file is good, its own failed read may be told of a later one.
-pub record IsUnread (texts : Texts) (old new : FilesState) (said : Status) (text : List ℕ) : Type 0 where
+pub record IsUnread (GoodUpTo : ℕ → Type 0) (old new : FilesState) (said : Status) (text : List ℕ) : Type 0 where
   pub file : ℕ
-  pub good : GoodBefore file texts
+  pub good : GoodUpTo file
   pub counted : Rose old.faults new.faults
   pub said_is : said ≡ status.Unread
   pub text_is : text ≡ unread_line file
@@ -122,13 +122,13 @@ pub record IsWant (said : Status) (text : List ℕ) : Type 0 where
 
 -- what is said where no read failed
 abbrev pub SaysOf : Texts → Status → List ℕ → Type 0
-SaysOf texts said text = IsRefusal texts said text ⊎ (IsRun texts said text ⊎ IsWant said text)
+SaysOf texts said text = IsRefusal (inputs_of texts) said text ⊎ (IsRun texts said text ⊎ IsWant said text)
 
 -- what a call of served words says, for texts that its files have: a fault of reading is told, and is counted where it is told alone
 pub record Serves (names : Names) (old new : FilesState) (said : Status) (text : List ℕ) : Type 0 where
   pub texts : Texts
   pub told : AreTextsOf old names texts
-  pub says : IsUnread texts old new said text ⊎ ((new.faults ≡ old.faults) × SaysOf texts said text)
+  pub says : IsUnread (λ file. GoodBefore file texts) old new said text ⊎ ((new.faults ≡ old.faults) × SaysOf texts said text)
 
 -- what a call says, whichever words it is given
 abbrev pub Says : Option Names → FilesState → FilesState → Status → List ℕ → Type 0
@@ -140,19 +140,19 @@ pub record Ends (said : Status) (text : List ℕ) (old new : SinkState) (ended :
   pub sent : ((ended ≡ said) × SendsWhole old new text) ⊎ ((ended ≡ status.Unwritten) × SendsPart old new text)
   pub grows : old.faults ≤ new.faults
 
--- a call says something, and sends it
-pub record Answers (names : Option Names) (old new : FilesState) (out out' : SinkState) (ended : Status) : Type 0 where
+-- a call says something, of what its command may say, and sends it
+pub record Answers (Saying : FilesState → FilesState → Status → List ℕ → Type 0) (old new : FilesState) (out out' : SinkState) (ended : Status) : Type 0 where
   pub said : Status
   pub text : List ℕ
-  pub says : Says names old new said text
+  pub says : Saying old new said text
   pub ends : Ends said text out out' ended
   pub grows : old.faults ≤ new.faults
 
 -- a call answers the number of the status that it ends with
-pub record Answered (names : Option Names) (old new : FilesState) (out out' : SinkState) (number : ℕ) : Type 0 where
+pub record Answered (Saying : FilesState → FilesState → Status → List ℕ → Type 0) (old new : FilesState) (out out' : SinkState) (number : ℕ) : Type 0 where
   pub ended : Status
   pub number_is : number ≡ status_number ended
-  pub answers : Answers names old new out out' ended
+  pub answers : Answers Saying old new out out' ended
 
 -- what the run of inputs says
 pub record Replayed (inputs : Inputs) (old new : SinkState) (ended : Status) : Type 0 where

@@ -61,8 +61,11 @@ abbrev pub settings_or_fault : Configuration → Option TableFault → Result Co
 settings_or_fault c None = Ok c
 settings_or_fault c (Some fault) = Err (Table fault)
 
+abbrev pub settings_from : List ℕ → Result Configuration Refusal
+settings_from text = in_file 0 settings_in text >>= λ c. settings_or_fault c (first_fault c.rows)
+
 abbrev pub settings_of : Texts → Result Configuration Refusal
-settings_of texts = in_file 0 settings_in texts.settings >>= λ c. settings_or_fault c (first_fault c.rows)
+settings_of texts = settings_from texts.settings
 
 abbrev pub schedule_of : Texts → Result (List ScheduleItem) Refusal
 schedule_of texts = in_file 1 (schedule_in 1) texts.schedule

@@ -3,3 +3,5 @@ pub mod Inputs
 pub mod Loading
 pub mod Meaning
 pub mod Statuses
+pub mod Choosing
+pub mod ChooseLoading

@@ -49,7 +49,8 @@ fn fault_of(file: u32, fault: InputFault) -> Stop
     }
 }
 
-fn load_settings<F: Files>(alloc: Global, name: &str, files: &mut F) -> Result<Settings, Stop>
+/// Reads the settings, which are the first file.
+pub fn load_settings<F: Files>(alloc: Global, name: &str, files: &mut F) -> Result<Settings, Stop>
     ensures loads { Loads (F.state files.old) (F.state files.new) name.now 0 (in_file 0 settings_in) result }
     ensures contents { KeepsContents (F.state files.old) (F.state files.new) }
 {
@@ -77,13 +78,15 @@ fn load_schedule<F: Files>(alloc: Global, name: &str, files: &mut F) -> Result<S
     }
 }
 
-fn load_script<F: Files>(
+/// Reads the script, whose name is at this place among the names.
+pub fn load_script<F: Files>(
     alloc: Global,
     name: &str,
+    file: u32,
     settings: &Settings,
     files: &mut F,
 ) -> Result<Script, Stop>
-    ensures loads { Loads (F.state files.old) (F.state files.new) name.now 2 (in_file 2 (script_in settings.now)) result }
+    ensures loads { Loads (F.state files.old) (F.state files.new) name.now file (in_file file (script_in settings.now)) result }
     ensures contents { KeepsContents (F.state files.old) (F.state files.new) }
     ensures script { IfOk result (IsScriptOver (metric_space settings.now)) }
 {
@@ -91,13 +94,14 @@ fn load_script<F: Files>(
     match files.read(name, &mut bytes) {
         Ok(()) => match read_script(alloc, bytes.as_slice(), settings) {
             Ok(script) => Ok(script),
-            Err(fault) => Err(fault_of(2, fault)),
+            Err(fault) => Err(fault_of(file, fault)),
         },
-        Err(refusal) => Err(stop_of(2, refusal)),
+        Err(refusal) => Err(stop_of(file, refusal)),
     }
 }
 
-fn metric_of(alloc: Global, settings: &Settings) -> Result<AnyMetric, Stop>
+/// The metric of the settings, unless their table has a fault.
+pub fn metric_of(alloc: Global, settings: &Settings) -> Result<AnyMetric, Stop>
     ensures { HasMetric settings.now result }
 {
     match AnyMetric::of(alloc, settings) {
@@ -121,7 +125,7 @@ pub fn load<F: Files>(
     let settings = load_settings(alloc, settings_name, files)?;
     let metric = metric_of(alloc, &settings)?;
     let schedule = load_schedule(alloc, schedule_name, files)?;
-    let script = load_script(alloc, script_name, &settings, files)?;
+    let script = load_script(alloc, script_name, 2, &settings, files)?;
     Ok(Loaded {
         settings,
         metric,

@@ -1,15 +1,17 @@
 //! An exact similarity index in memory: replays scripts of updates and queries.
 #![tactic(auto)]
 
-ghost use Rattle.std.specs.Prelude.{map};
+ghost use Rattle.std.specs.Prelude.{◌≡◌, map};
 ghost use Rattle.std.specs.String.{string_bytes};
 ghost use Rattle.mi_outside.specs.Outside.{KeepsContents};
-ghost use Rattle.mindex.specs.Calls.{Answered, Completes};
-ghost use Rattle.mindex.specs.Inputs.{names_in};
+ghost use Rattle.mindex.specs.Calls.{Answered};
+ghost use Rattle.mindex.specs.Choosing.{CommandCompletes, CommandSays, begins_choose};
 
 mod adapters;
+mod choosing;
 mod laws;
 mod loading;
+mod proposals;
 mod refusals;
 mod replaying;
 mod statuses;
@@ -18,6 +20,7 @@ mod tests;
 mod texts;
 
 use adapters::{RealFiles, RealOut};
+use choosing::choose_call;
 pub use laws::one_text_has_one_history;
 use mi_outside::{Files, Gate, OpenGate, Sink};
 use refusals::Stop;
@@ -29,6 +32,13 @@ use std::sync::Wait;
 use std::thread::Threads;
 use std::{env, io};
 
+/// The first word names the command that chooses pivots.
+fn names_choose(words: &[String]) -> bool
+    ensures { result ≡ begins_choose (map string_bytes words.now) }
+{
+    !words.is_empty() && words[0].as_str() == "choose"
+}
+
 /// Runs the command that the words name. They are those behind the program's name.
 pub fn mindex<R: Threads + Wait + Sync, F: Files, S: Sink, G: Gate>(
     _rt: &R,
@@ -38,11 +48,15 @@ pub fn mindex<R: Threads + Wait + Sync, F: Files, S: Sink, G: Gate>(
     out: &mut S,
     _gate: &G,
 ) -> u8
-    ensures answered { Answered (names_in (map string_bytes words.now)) (F.state files.old) (F.state files.new) (S.state out.old) (S.state out.new) result }
-    ensures complete { Completes (names_in (map string_bytes words.now)) (F.state files.old) (F.state files.new) (S.state out.old) (S.state out.new) result }
+    ensures answered { Answered (CommandSays (begins_choose (map string_bytes words.now)) (map string_bytes words.now)) (F.state files.old) (F.state files.new) (S.state out.old) (S.state out.new) result }
+    ensures complete { CommandCompletes (begins_choose (map string_bytes words.now)) (map string_bytes words.now) (F.state files.old) (F.state files.new) (S.state out.old) (S.state out.new) result }
     ensures contents { KeepsContents (F.state files.old) (F.state files.new) }
 {
-    replay_call(alloc, words, files, out)
+    if names_choose(words) {
+        choose_call(alloc, words, files, out)
+    } else {
+        replay_call(alloc, words, files, out)
+    }
 }
 
 /// The words behind the program's name.

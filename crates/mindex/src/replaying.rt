@@ -2,7 +2,7 @@
 ghost use Rattle.std.specs.Prelude.{◌≡◌, OnErr, OnOk, IsTrue, is_some, length, map};
 ghost use Rattle.std.specs.String.{string_bytes};
 ghost use Rattle.mi_outside.specs.Outside.{KeepsContents};
-ghost use Rattle.mindex.specs.Calls.{Answered, Answers, Completes, Ends, Replayed};
+ghost use Rattle.mindex.specs.Calls.{Answered, Answers, Completes, Ends, Replayed, Says};
 ghost use Rattle.mindex.specs.Inputs.{names_in};
 ghost use Rattle.mindex.specs.Loading.{MayRun, inputs_in, stop_line, stop_status};
 
@@ -16,7 +16,7 @@ use mi_print::render;
 use std::alloc::Global;
 
 /// The status of a text that was sent whole, or else that of a failed write.
-fn ended(said: Status, sent: Result<(), SinkFailed>) -> Status
+pub fn ended(said: Status, sent: Result<(), SinkFailed>) -> Status
     ensures ok { OnOk sent (result ≡ said) }
     ensures err { OnErr sent (result ≡ Status.Unwritten) }
 {
@@ -69,7 +69,7 @@ fn answer_call<F: Files, S: Sink>(
     files: &mut F,
     out: &mut S,
 ) -> Status
-    ensures answers { Answers (names_in (map string_bytes words.now)) (F.state files.old) (F.state files.new) (S.state out.old) (S.state out.new) result }
+    ensures answers { Answers (Says (names_in (map string_bytes words.now))) (F.state files.old) (F.state files.new) (S.state out.old) (S.state out.new) result }
     ensures contents { KeepsContents (F.state files.old) (F.state files.new) }
 {
     if !are_served(words) {
@@ -92,7 +92,7 @@ pub fn replay_call<F: Files, S: Sink>(
     out: &mut S,
 ) -> u8
     // What is said, and which status and which bytes come of it.
-    ensures answered { Answered (names_in (map string_bytes words.now)) (F.state files.old) (F.state files.new) (S.state out.old) (S.state out.new) result }
+    ensures answered { Answered (Says (names_in (map string_bytes words.now))) (F.state files.old) (F.state files.new) (S.state out.old) (S.state out.new) result }
     // Good inputs are run.
     ensures complete { Completes (names_in (map string_bytes words.now)) (F.state files.old) (F.state files.new) (S.state out.old) (S.state out.new) result }
     ensures contents { KeepsContents (F.state files.old) (F.state files.new) }

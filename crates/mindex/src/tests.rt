@@ -1,5 +1,6 @@
 //! Tests of the command, from the bytes of its files to the bytes of its text.
 
+mod choices;
 mod nearest;
 mod queries;
 mod workloads;
@@ -566,10 +567,13 @@ fn a_file_above_the_bound_is_too_large(rt: HostRuntime) -> Result<(), Fail> {
 fn other_words_have_the_usage_line(rt: HostRuntime) -> Result<(), Fail> {
     let alloc = rt.alloc();
     let usage =
-        "usage: mindex replay SETTINGS SCHEDULE SCRIPT... | run SETTINGS SCRIPT... | make SEED\n";
+        "usage: mindex replay SETTINGS SCHEDULE SCRIPT... | run SETTINGS SCRIPT... | make SEED | choose SETTINGS SCRIPT COUNT\n";
     let none: &[&str] = &[];
-    let cases: [&[&str]; 7] = [
+    let cases: [&[&str]; 10] = [
         none,
+        &["choose"],
+        &["choose", "settings", "script"],
+        &["choose", "settings", "script", "33"],
         &["replay"],
         &["replay", "a", "b"],
         &["replay", "a", "b", "c", "d"],

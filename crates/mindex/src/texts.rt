@@ -18,7 +18,7 @@ pub fn send_usage<S: Sink>(out: &mut S) -> Result<(), SinkFailed>
 {
     write_all(
         out,
-        b"usage: mindex replay SETTINGS SCHEDULE SCRIPT... | run SETTINGS SCRIPT... | make SEED\n",
+        b"usage: mindex replay SETTINGS SCHEDULE SCRIPT... | run SETTINGS SCRIPT... | make SEED | choose SETTINGS SCRIPT COUNT\n",
     )
 }
 
