@@ -35,3 +35,4 @@ pub mod WorkSections
 pub mod WayLemmas
 pub mod SweepSections
 pub mod DeleteSection
+pub mod RouteSections

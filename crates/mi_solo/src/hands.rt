@@ -1,6 +1,8 @@
 //! The fresh page in an actor's hand, and the routes that it owes.
-ghost use Rattle.std.specs.Prelude.{◌≡◌, ◌++◌, [], ◌∷◌, None, Some, is_some};
+ghost use Rattle.std.specs.Prelude.{◌≡◌, ◌<◌, ◌≤◌, ◌+◌, ◌++◌, [], ◌∷◌, IsSome, None, Some, is_some, length, vec_capacity};
 ghost use Rattle.mi_core.specs.Effects.{paid};
+ghost use Rattle.mi_core.specs.Events.{hand};
+ghost use Rattle.mi_page.specs.Nodes.{item_count, lower_half, middle_key, root_node, upper_half};
 ghost use Rattle.mi_solo.specs.Hands.{TakesPage};
 
 use mi_base::NoMemory;
@@ -82,6 +84,64 @@ impl Hand {
         self.fresh.is_some()
     }
 
+    /// The number of the fresh page.
+    pub fn fresh_number(&self) -> Option<u32>
+        ensures { result ≡ self.now.fresh }
+    {
+        let fresh = self.fresh.as_ref()?;
+        Some(fresh.number)
+    }
+
+    /// The route of the page is owed no more.
+    pub fn pay(&mut self, child: u32)
+        ensures { self.new ≡ record self.old { owed = paid child self.old.owed } }
+    {
+        drop_route(&mut self.owed, child);
+    }
+
+    /// Makes the fresh page a root of this level, which pays the child's route.
+    pub fn raise(&mut self, level: u32, left: u32, key: Key, child: u32) -> Page
+        requires fresh { IsSome self.old.fresh }
+        requires level { 0 < level }
+        requires key { 0 < key }
+        ensures root { result ≡ root_node level left key child }
+        ensures hand { self.new ≡ record { fresh = None; owed = paid child self.old.owed } }
+    {
+        let Some(FreshPage { mut page, .. }) = self.fresh.take() else {
+            unreachable!();
+        };
+        page.make_root(level, left, key, child);
+        self.pay(child);
+        page
+    }
+
+    /// Halves a full page: its upper half goes to the fresh one, whose route is owed.
+    pub fn halve(&mut self, page: &mut Page) -> Page
+        requires fresh { IsSome self.old.fresh }
+        requires full { item_count page.old ≡ 32 }
+        requires level { page.old.level < 4294967295 }
+        ensures lower { page.new ≡ lower_half (hand self.old.fresh) page.old }
+        ensures upper { result ≡ upper_half page.old }
+        ensures hand { self.new ≡ record { fresh = None; owed = self.old.owed ++ record { level = page.old.level + 1; key = middle_key page.old; child = hand self.old.fresh } ∷ [] } }
+    {
+        let Some(
+            FreshPage {
+                number,
+                page: mut upper,
+            },
+        ) = self.fresh.take()
+        else {
+            unreachable!();
+        };
+        page.split_into(&mut upper, number);
+        self.owed.push_reserved(OwedRow {
+            level: page.level() + 1,
+            key: upper.low(),
+            child: number,
+        });
+        upper
+    }
+
     /// Takes the board's next page in hand.
     pub fn allot(&mut self, alloc: Global, board: &mut Board) -> Result<(), AllotRefusal>
         ensures { TakesPage board.old self.old result board.new self.new }
@@ -100,4 +160,13 @@ impl Hand {
         self.fresh = Some(FreshPage { number, page });
         Ok(())
     }
+}
+
+/// All routes but that of the child stay.
+fn drop_route(owed: &mut Vec<OwedRow>, child: u32)
+    ensures owed { owed.new.items ≡ paid child owed.old.items }
+    ensures fewer { length owed.new.items ≤ length owed.old.items }
+    ensures room { vec_capacity owed.new ≡ vec_capacity owed.old }
+{
+    owed.retain(|route| route.child != child);
 }

@@ -11,6 +11,7 @@ mod insert_section;
 mod keying;
 mod page_sections;
 mod pages;
+mod route_sections;
 mod rows;
 mod seeking;
 mod shard_sections;

@@ -1,0 +1,163 @@
+-- What sections of routes owe to hands and pages, and what they make of the state.
+use Rattle.std.proofs.Common.{◌≡◌, ◌≢◌, ℕ, ◌+◌, ◌<◌, ◌≤◌, ◌==◌, [], ◌∷◌, ◌++◌, length, get_or, set, cond, true, false, IsTrue, refl, sym, ap, ◌∙◌, subst, arith, Option, Some, None, inl, inr}
+use Rattle.std.specs.Prelude.{Bool}
+use Rattle.std.proofs.lemmas.Bool.{cases_lt, eqb-true, false≢true, ne_eqb}
+use Rattle.std.proofs.lemmas.List.{length-map}
+use Rattle.mi_base.specs.Prefixes.{has}
+use Rattle.mi_board.specs.Boards.{BoardState, grown}
+use Rattle.mi_core.specs.Effects.{noted, paid, post_route, saw, trim_leaf, trim_node}
+use Rattle.mi_core.specs.Events.{Can, MayPost, hand}
+use Rattle.mi_core.specs.Events.Event.{grow, post, split_page, trim, visit}
+use Rattle.mi_core.specs.Kept.{Kept}
+use Rattle.mi_core.specs.Pages.{node_or_fresh}
+use Rattle.mi_core.specs.State.{State, node_at}
+use Rattle.mi_entries.specs.Actors.{Actor}
+use Rattle.mi_key.specs.declared.entries.Entry.{Entry}
+use Rattle.mi_page.specs.declared.routes.Route.{Route}
+use Rattle.mi_page.specs.Nodes.{IsNode, Node, item_count, lower_half, middle_key, root_node, upper_half}
+use Rattle.mi_solo.specs.declared.cores.Core.{Core}
+use Rattle.mi_solo.specs.declared.rows.ActorRow.{ActorRow}
+use Rattle.mi_solo.specs.InHand.{InHand}
+use Rattle.mi_solo.specs.Routes.{trims_leaf}
+use Rattle.mi_solo.specs.States.{Does, actor_in, actor_of, actors_of, is_linked, node_in, state_of}
+use Rattle.mi_solo.proofs.CoreLemmas.{comes_to, log_of, row_is, suits}
+use Rattle.mi_solo.proofs.PageLemmas.{node_here, page_here}
+use Rattle.mi_solo.proofs.ShardSections.{set_read}
+
+-- no linked page is higher than the root
+pub not_higher : (s : State) → Kept s → (page : ℕ) (node : Node) → node_at s.pages page ≡ Some node → node.level ≤ s.board.height
+not_higher s k page node here = elim (cases_lt s.board.height node.level) [
+  | inl lt ↦ absurd (false≢true (ap (has page) (sym (k.sound.pages.forest.top node.level (omega (arith, k.sound.pages.height))))
+      ∙ ap (λ o. has page (k.sound.chain (node_or_fresh o).level)) (sym here) ∙ k.sound.pages.linked page node here))
+  | inr le ↦ le
+]
+
+-- a page of routes isn't trimmed
+pub routes_stay : (floor : ℕ) (n : Node) → 0 < n.level → trim_leaf floor n ≡ n
+routes_stay floor n h = ap (λ b. cond b (trim_node floor n) n) (ne_eqb n.level 0 (λ e. absurd (omega arith)))
+
+pub trims_level : (floor : ℕ) (n : Node) → (trim_leaf floor n).level ≡ n.level
+trims_level floor n = let P : Bool → Type 0 = λ b. (cond b (trim_node floor n) n).level ≡ n.level in elim (n.level == 0) as P [ true ↦ refl | false ↦ refl ]
+
+count_entries : (n : Node) → IsNode n → length n.entries ≤ 32
+count_entries n h = subst (λ l. l ≤ 32) (length-map n.entries (λ (x : Entry). x.key)) h.entries.few
+
+count_routes : (n : Node) → IsNode n → length n.routes ≤ 32
+count_routes n h = subst (λ l. l ≤ 32) (length-map n.routes (λ (x : Route). x.key)) h.routes.few
+
+-- a page has at most 32 items
+pub few_items : (n : Node) → IsNode n → item_count n ≤ 32
+few_items n h = elim (cases_lt 0 n.level) [
+  | inl lt ↦ (let none : length n.entries ≡ 0 = ap length (h.inner lt) in let few = count_routes n h in omega arith)
+  | inr le ↦ (let zero : n.level ≡ 0 = omega arith in let none : length n.routes ≡ 0 = ap length (h.leaf zero) in let few = count_entries n h in omega arith)
+]
+
+pub few_routes : (n : Node) → IsNode n → 0 < n.level → item_count n ≢ 32 → length n.routes < 32
+few_routes n h inner other = let none : length n.entries ≡ 0 = ap length (h.inner inner) in let few = count_routes n h in omega arith
+
+-- an actor's fresh page is that in its hand, and there is a place for it
+module _ (c : Core) (a : ℕ) (known : a < length c.actors.items) (k : Kept (state_of c)) (row : ActorRow) (at : row ≡ get_or c.actors.items a row) where
+  pub fresh_is : (actor_in (state_of c) a).fresh ≡ row.hand.fresh
+  fresh_is = ap (λ (r : Actor). r.fresh) (row_is c a known row at)
+
+  module _ (p : ℕ) (in_hand : Some p ≡ row.hand.fresh) where
+    pub has_fresh : (actor_in (state_of c) a).fresh ≡ Some p
+    has_fresh = fresh_is ∙ sym in_hand
+
+    pub has_place : p < length c.pages.items
+    has_place = let low = ((suits c a known k).fresh p has_fresh).0 in omega (arith, low, k.sound.pages.most, k.sound.pages.length_is)
+
+    -- the page in hand is the root now
+    pub root_is_grown : (level key child : ℕ) → Can (state_of c) a (actor_in (state_of c) a) (grow level key child) → (b : BoardState) → b ≡ grown level p c.board → (root : Node) → root ≡ root_node level c.board.root key child
+        → (held : InHand) → held ≡ record { fresh = None; owed = paid child row.hand.owed } → (new : ActorRow) → new ≡ record row { seen = length b.log; hand = held }
+        → Does (state_of c) a (grow level key child) (record { board = b; shards = c.shards.items; pages = set c.pages.items p (Some root); actors = actors_of b.log 0 (set c.actors.items a new) })
+    root_is_grown level key child can b is root root_is held held_is new e =
+        let n : p ≡ hand (actor_in (state_of c) a).fresh = ap hand (sym has_fresh) in
+        let to = grown level (hand (actor_in (state_of c) a).fresh) c.board in
+        let becomes : b ≡ to = is ∙ ap (λ m. grown level m c.board) n in
+        record {
+          can = can;
+          is = comes_to c a known row at b to becomes (λ m o. refl) c.shards.items c.shards.items refl
+              (set c.pages.items p (Some root)) (set c.pages.items (hand (actor_in (state_of c) a).fresh) (Some (root_node level c.board.root key child)))
+              (ap (λ x. set c.pages.items p (Some x)) root_is ∙ ap (λ m. set c.pages.items m (Some (root_node level c.board.root key child))) n)
+              new (λ (r : Actor). record (saw c.board r) { fresh = None; owed = paid child r.owed })
+              (ap (actor_of c.board.log a) e ∙ log_of c.board.log b to becomes a (λ m. record row { seen = m; hand = held }) ∙ ap (λ h. actor_of c.board.log a (record row { seen = length c.board.log; hand = h })) held_is);
+        }
+
+    -- the page is halved, and its upper half is on the page in hand
+    pub page_is_halved : (page : ℕ) (node : Node) → node ≡ node_in (state_of c) page → Can (state_of c) a (actor_in (state_of c) a) (split_page page (node_in (state_of c) page))
+        → (lower upper : Node) → lower ≡ lower_half p node → upper ≡ upper_half node
+        → (held : InHand) → held ≡ record { fresh = None; owed = row.hand.owed ++ record { level = node.level + 1; key = middle_key node; child = p } ∷ [] } → (new : ActorRow) → new ≡ record row { page = page; hand = held }
+        → Does (state_of c) a (split_page page (node_in (state_of c) page)) (record { board = c.board; shards = c.shards.items; pages = set (set c.pages.items page (Some lower)) p (Some upper); actors = actors_of c.board.log 0 (set c.actors.items a new) })
+    page_is_halved page node same can lower upper lower_is upper_is held held_is new e =
+        let f = hand (actor_in (state_of c) a).fresh in
+        let n : p ≡ f = ap hand (sym has_fresh) in
+        let it = node_in (state_of c) page in
+        record {
+          can = can;
+          is = comes_to c a known row at c.board c.board refl (λ m o. refl) c.shards.items c.shards.items refl
+              (set (set c.pages.items page (Some lower)) p (Some upper)) (set (set c.pages.items page (Some (lower_half f it))) f (Some (upper_half it)))
+              (ap (λ x. set (set c.pages.items page (Some x)) p (Some upper)) lower_is ∙ ap (λ x. set (set c.pages.items page (Some (lower_half p node))) p (Some x)) upper_is
+              ∙ ap (λ x. set (set c.pages.items page (Some (lower_half p x))) p (Some (upper_half x))) same ∙ ap (λ m. set (set c.pages.items page (Some (lower_half m it))) m (Some (upper_half it))) n)
+              new (λ (r : Actor). record r { page = page; fresh = None; owed = r.owed ++ record { level = it.level + 1; key = middle_key it; child = f } ∷ [] })
+              (ap (actor_of c.board.log a) e ∙ ap (λ h. actor_of c.board.log a (record row { page = page; hand = h })) (held_is
+              ∙ ap (λ x. record { fresh = None; owed = row.hand.owed ++ record { level = x.level + 1; key = middle_key x; child = p } ∷ [] }) same
+              ∙ ap (λ m. record { fresh = None; owed = row.hand.owed ++ record { level = it.level + 1; key = middle_key it; child = m } ∷ [] }) n));
+        }
+
+-- a linked page that was read
+module _ (c : Core) (a : ℕ) (known : a < length c.actors.items) (row : ActorRow) (at : row ≡ get_or c.actors.items a row)
+    (page : ℕ) (linked : IsTrue (is_linked (state_of c) page)) (read : Option Node) (was : read ≡ get_or c.pages.items page read) (node : Node) (is : read ≡ Some node) where
+  here : node_at (state_of c).pages page ≡ Some node
+  here = page_here c page linked read was node is
+
+  same : node_in (state_of c) page ≡ node
+  same = node_here c page linked read was node is
+
+  floor : (actor_in (state_of c) a).floor.updates ≡ row.floor.updates
+  floor = ap (λ (r : Actor). r.floor.updates) (row_is c a known row at)
+
+  back : set c.pages.items page (Some node) ≡ c.pages.items
+  back = ap (set c.pages.items page) (sym is) ∙ set_read c.pages.items page read was
+
+  -- what is left of the page after a trim
+  pub trim_seen : (trimmed : Node) → trimmed ≡ trim_leaf row.floor.updates node → trimmed ≡ trim_leaf (actor_in (state_of c) a).floor.updates (node_in (state_of c) page)
+  trim_seen trimmed t = t ∙ ap (λ f. trim_leaf f node) (sym floor) ∙ ap (trim_leaf (actor_in (state_of c) a).floor.updates) (sym same)
+
+  module _ (new : ActorRow) (e : new ≡ record row { page = page }) where
+    -- the page stays as it was
+    pub is_visited : (left : Node) → left ≡ node → Does (state_of c) a (visit page) (record { board = c.board; shards = c.shards.items; pages = set c.pages.items page (Some left); actors = actors_of c.board.log 0 (set c.actors.items a new) })
+    is_visited left stays = record {
+      can = (node, here);
+      is = comes_to c a known row at c.board c.board refl (λ m n. refl) c.shards.items c.shards.items refl (set c.pages.items page (Some left)) c.pages.items (ap (λ n. set c.pages.items page (Some n)) stays ∙ back)
+          new (noted page) (ap (actor_of c.board.log a) e);
+    }
+
+    -- the page is trimmed, if it is a leaf page
+    pub is_trimmed : (trimmed : Node) → trimmed ≡ trim_leaf row.floor.updates node
+        → Does (state_of c) a (trims_leaf page (node_in (state_of c) page)) (record { board = c.board; shards = c.shards.items; pages = set c.pages.items page (Some trimmed); actors = actors_of c.board.log 0 (set c.actors.items a new) })
+    is_trimmed trimmed t =
+        let f = (actor_in (state_of c) a).floor.updates in
+        let n = node_in (state_of c) page in
+        let P : Bool → Type 0 = λ b. (n.level == 0) ≡ b → Does (state_of c) a (cond b (trim page n) (visit page)) (record { board = c.board; shards = c.shards.items; pages = set c.pages.items page (Some trimmed); actors = actors_of c.board.log 0 (set c.actors.items a new) }) in
+        (elim (n.level == 0) as P [
+          | true ↦ λ leaf. record {
+            can = record { there = here ∙ ap Some (sym same); level = eqb-true n.level 0 leaf };
+            is = comes_to c a known row at c.board c.board refl (λ m o. refl) c.shards.items c.shards.items refl (set c.pages.items page (Some trimmed)) (set c.pages.items page (Some (trim_node f n)))
+                (ap (λ x. set c.pages.items page (Some x)) (trim_seen trimmed t ∙ ap (λ b. cond b (trim_node f n) n) leaf)) new (noted page) (ap (actor_of c.board.log a) e);
+          }
+          | false ↦ λ inner. is_visited trimmed (trim_seen trimmed t ∙ ap (λ b. cond b (trim_node f n) n) inner ∙ same)
+        ]) refl
+
+  -- the page has the route, which is owed no more
+  pub is_posted : (key child : ℕ) → MayPost (state_of c) node key child → (posted : Node) → posted ≡ post_route key child node → (held : InHand) → held ≡ record row.hand { owed = paid child row.hand.owed }
+      → (new : ActorRow) → new ≡ record row { page = page; hand = held }
+      → Does (state_of c) a (post page (node_in (state_of c) page) key child) (record { board = c.board; shards = c.shards.items; pages = set c.pages.items page (Some posted); actors = actors_of c.board.log 0 (set c.actors.items a new) })
+  is_posted key child may posted posted_is held held_is new e = record {
+    can = (here ∙ ap Some (sym same), subst (λ n. MayPost (state_of c) n key child) (sym same) may);
+    is = comes_to c a known row at c.board c.board refl (λ m n. refl) c.shards.items c.shards.items refl
+        (set c.pages.items page (Some posted)) (set c.pages.items page (Some (post_route key child (node_in (state_of c) page))))
+        (ap (λ n. set c.pages.items page (Some n)) (posted_is ∙ ap (post_route key child) (sym same)))
+        new (λ (r : Actor). record r { page = page; owed = paid child r.owed })
+        (ap (actor_of c.board.log a) e ∙ ap (λ h. actor_of c.board.log a (record row { page = page; hand = h })) held_is);
+  }
