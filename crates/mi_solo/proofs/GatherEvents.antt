@@ -88,7 +88,7 @@ module _ (s : State) (k : Kept s) (a : ℕ) (r : Actor) (there : slice_get s.act
     prefix_is : leaf_or r.claim ≡ prefix_or r.claim
     prefix_is = ap leaf_or claim ∙ sym (ap prefix_or claim)
 
-    mark_is : W.mark ≡ gather_key v
+    pub mark_is : W.mark ≡ gather_key v
     mark_is = go r.split
       where
         go : (o : Option SplitWork) → (split_or g (leaf_or r.claim) o).mark ≡ cond (is_some o) (gathered_to o) (first_key v v.leaf)
@@ -116,7 +116,7 @@ module _ (s : State) (k : Kept s) (a : ℕ) (r : Actor) (there : slice_get s.act
         go None = lt-leb (cell_end g (leaf_or r.claim)) (cell_start g (leaf_or r.claim)) (start_before g (leaf_or r.claim))
         go (Some w) = refl
 
-    leaf_is : W.leaf ≡ leaf_or r.claim
+    pub leaf_is : W.leaf ≡ leaf_or r.claim
     leaf_is = go r.split (λ w e. ap leaf_or (sym ((k.sound.each a r there).holds.split w e)))
       where
         go : (o : Option SplitWork) → ((w : SplitWork) → o ≡ Some w → w.leaf ≡ leaf_or r.claim) → (split_or g (leaf_or r.claim) o).leaf ≡ leaf_or r.claim

@@ -36,3 +36,4 @@ pub mod WayLemmas
 pub mod SweepSections
 pub mod DeleteSection
 pub mod RouteSections
+pub mod GatherSections

@@ -1,7 +1,8 @@
 -- What the sections of splits and sweeps do, told by cases on what they answer.
-use Rattle.std.specs.Prelude.{◌≡◌, ℕ, Some}
+use Rattle.std.specs.Prelude.{◌≡◌, ℕ, Some, Result, Ok, Err}
+use Rattle.mi_base.specs.declared.refusals.NoMemory.{NoMemory}
 use Rattle.mi_board.specs.Boards.{next_split}
-use Rattle.mi_core.specs.Events.Event.{no_work, sweep, take_split, take_sweep, visit}
+use Rattle.mi_core.specs.Events.Event.{gather, no_work, start, sweep, take_split, take_sweep, visit}
 use Rattle.mi_core.specs.State.{State}
 use Rattle.mi_solo.specs.Seeking.{PointsDown, PointsRight, ReadsOn}
 use Rattle.mi_solo.specs.States.{Does, node_in, view_in}
@@ -9,7 +10,7 @@ use Rattle.mi_tree.specs.declared.answers.Work.{Work}
 use Rattle.mi_tree.specs.declared.answers.Work.TheVariants as work
 use Rattle.mi_world.specs.declared.answers.Visit.{Visit}
 use Rattle.mi_world.specs.declared.answers.Visit.TheVariants.{Down, Right, Read}
-use Rattle.mi_world.specs.Splits.{last_key}
+use Rattle.mi_world.specs.Splits.{gather_key, last_key}
 
 -- a leaf to sweep, else one to split, which is the first open one, else nothing
 abbrev pub GivesWork : State → ℕ → Work → State → Type 0
@@ -22,3 +23,10 @@ abbrev pub Sweeps : State → ℕ → ℕ → Visit → State → Type 0
 Sweeps s a page (Down p) t = Does s a (visit page) t × PointsDown (node_in s page) 0 (view_in s a).swept p
 Sweeps s a page (Right p) t = Does s a (visit page) t × PointsRight (node_in s page) 0 (view_in s a).swept p
 Sweeps s a page (Read next) t = Does s a (sweep page (node_in s page)) t × ReadsOn (node_in s page) (last_key (view_in s a) (view_in s a).sweep) next
+
+-- the way of the key from which the leaf is gathered goes on, memory was wanted, or the page is gathered
+abbrev pub Gathers : State → ℕ → ℕ → Result Visit NoMemory → State → Type 0
+Gathers s a page (Ok (Down p)) t = Does s a (start page) t × PointsDown (node_in s page) 0 (gather_key (view_in s a)) p
+Gathers s a page (Ok (Right p)) t = Does s a (start page) t × PointsRight (node_in s page) 0 (gather_key (view_in s a)) p
+Gathers s a page (Ok (Read next)) t = Does s a (gather page (node_in s page)) t × ReadsOn (node_in s page) (last_key (view_in s a) (view_in s a).leaf) next
+Gathers s a page (Err e) t = Does s a (start page) t

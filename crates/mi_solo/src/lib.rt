@@ -6,6 +6,7 @@ mod boards;
 mod cell_keys;
 mod cores;
 mod delete_section;
+mod gathering;
 mod hands;
 mod insert_section;
 mod keying;

@@ -1,14 +1,18 @@
 //! Sections of splits.
-ghost use Rattle.std.specs.Prelude.{◌≡◌, None, IsSome, IsTrue};
+ghost use Rattle.std.specs.Prelude.{◌≡◌, ◌≤◌, None, IsSome, IsTrue};
 ghost use Rattle.mi_core.specs.Events.Event.{give_up};
 ghost use Rattle.mi_core.specs.Kept.{Kept};
-ghost use Rattle.mi_solo.specs.States.{Does, IsGoing, actor_in, state_of, view_in};
-ghost use Rattle.mi_solo.specs.WorkSections.{GivesWork};
-ghost use Rattle.mi_world.specs.Splits.{copied_in};
+ghost use Rattle.mi_solo.specs.States.{Does, IsGoing, actor_in, is_linked, node_in, state_of, view_in};
+ghost use Rattle.mi_solo.specs.WorkSections.{Gathers, GivesWork};
+ghost use Rattle.mi_world.specs.Splits.{MayGather, copied_in, gather_key};
 
-use crate::cell_keys::first_key;
+use crate::cell_keys::{cell_keys, end_key, first_key};
 use crate::cores::Core;
+use crate::seeking::{Way, next_page, seek};
+use mi_base::NoMemory;
 use mi_tree::Work;
+use mi_world::Visit;
+use std::alloc::Global;
 
 impl Core {
     /// Gives the actor a leaf to sweep, else one to split, which it then claims, else nothing.
@@ -31,6 +35,45 @@ impl Core {
             Work::Idle => me.learn(&self.board, floor),
         }
         work
+    }
+
+    /// Gathers what the page has of the leaf that the actor claims, if it is the next one that may have some.
+    pub fn gather(&mut self, alloc: Global, actor: u32, page: u32) -> Result<Visit, NoMemory>
+        requires going { IsGoing self.old actor }
+        requires kept { Kept (state_of self.old) }
+        requires ready { MayGather (view_in (state_of self.old) actor) }
+        requires linked { IsTrue (is_linked (state_of self.old) page) }
+        requires low { (node_in (state_of self.old) page).low ≤ gather_key (view_in (state_of self.old) actor) }
+        ensures { Gathers (state_of self.old) actor page result (state_of self.new) }
+    {
+        let Some(node) = &self.pages[page as usize] else {
+            unreachable!();
+        };
+        let settings = self.board.settings();
+        let me = &mut self.actors[actor as usize];
+        let Some(leaf) = &me.claim else {
+            unreachable!();
+        };
+        let leaf = leaf.copy();
+        let first = first_key(settings, &leaf);
+        me.open_split(alloc, page, leaf, first);
+        let Some(work) = &me.split else {
+            unreachable!();
+        };
+        match seek(node, 0, work.mark) {
+            Way::Down { page: child } => Ok(Visit::Down { page: child }),
+            Way::Right { page: next } => Ok(Visit::Right { page: next }),
+            Way::Here => {
+                let keys = cell_keys(settings, &work.leaf);
+                let end = end_key(settings, &work.leaf);
+                match me.gather(node, &keys, end) {
+                    Ok(()) => Ok(Visit::Read {
+                        next: next_page(node, keys.to),
+                    }),
+                    Err(refusal) => Err(refusal),
+                }
+            }
+        }
     }
 
     /// Ends the claim of the leaf and its split, of which no copy is left. For want of pages the leaf is passed over.

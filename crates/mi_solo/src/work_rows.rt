@@ -1,11 +1,13 @@
 //! What the sections of splits and sweeps change in an actor's row.
 ghost use Rattle.std.specs.Prelude.{◌≡◌, Some, None, length};
-ghost use Rattle.mi_solo.specs.WorkRows.{swept_row};
+ghost use Rattle.mi_solo.specs.States.{split_of};
+ghost use Rattle.mi_solo.specs.WorkRows.{opened_split, swept_row};
 
-use crate::rows::{ActorRow, SweepRow};
+use crate::rows::{ActorRow, SplitRow, SweepRow};
 use mi_base::{Position, Prefix};
 use mi_board::Board;
 use mi_key::Key;
+use std::alloc::Global;
 
 impl ActorRow {
     /// It has seen the whole log, and this floor.
@@ -51,5 +53,21 @@ impl ActorRow {
     {
         self.leave_leaf(board);
         self.split = None;
+    }
+
+    /// Its split is under way: as it was, or of this leaf with nothing gathered. It has made a section of the page.
+    pub fn open_split(&mut self, alloc: Global, page: u32, leaf: Prefix, first: Key)
+        ensures rest { self.new ≡ record self.old { page = page; split = self.new.split } }
+        ensures split { split_of self.new.split ≡ Some (opened_split leaf first (split_of self.old.split)) }
+    {
+        self.note(page);
+        if self.split.is_none() {
+            self.split = Some(SplitRow {
+                leaf,
+                mark: first,
+                gathered: Vec::new(alloc),
+                copied: 0,
+            });
+        }
     }
 }
