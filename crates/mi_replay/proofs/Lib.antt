@@ -1,3 +1,4 @@
 pub mod HeldLemmas
 pub mod OrderLemmas
 pub mod RunLemmas
+pub mod AloneLemmas
