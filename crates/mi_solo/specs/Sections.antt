@@ -14,7 +14,7 @@ use Rattle.mi_solo.specs.States.{Does, actor_in, node_in, view_in}
 use Rattle.mi_solo.specs.Viewing.{record_shown}
 use Rattle.mi_key.specs.declared.ranges.Interval.{Interval}
 use Rattle.mi_entries.specs.Actors.{Pin}
-use Rattle.mi_solo.specs.Seeking.{AnswersVisit, EndsAfter, PointsDown, PointsRight}
+use Rattle.mi_solo.specs.Seeking.{AnswersVisit, TrimsTo, EndsAfter, PointsDown, PointsRight}
 use Rattle.mi_tree.specs.declared.answers.AllotRefusal.{AllotRefusal}
 use Rattle.mi_tree.specs.declared.answers.AllotRefusal.TheVariants as allots
 use Rattle.mi_tree.specs.declared.answers.LeafClaim.{LeafClaim}
@@ -95,7 +95,7 @@ updates_pinned (Some p) = p.at.updates
 abbrev pub Trims : State → ℕ → ℕ → Visit → State → Type 0
 Trims s a page (Down p) t = ⊥
 Trims s a page (Right p) t = ⊥
-Trims s a page (Read next) t = Does s a (trim page (node_in s page)) t × (next ≡ (node_in s page).right)
+Trims s a page (Read next) t = Does s a (trim page (node_in s page)) t × TrimsTo (node_in s page) next
 
 -- what comes where the key lies in the page
 abbrev pub EntersInsert : State → ℕ → ℕ → ℕ → ℕ → List ℤ → List ℕ → Commit → State → Type 0
