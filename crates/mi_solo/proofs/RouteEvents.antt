@@ -16,15 +16,14 @@ use Rattle.mi_page.specs.Nodes.{IsNode, Node, item_count, lower_half, middle_key
 use Rattle.mi_page.specs.Routes.{has_route, route_cmp}
 use Rattle.mi_page.proofs.HalfLemmas.{lower_part, middle_inside}
 use Rattle.mi_tree.proofs.ListLemmas.{all_any, filter_same, filter_twice}
-use Rattle.mi_forest.specs.Forests.{Forest}
 use Rattle.mi_forest.proofs.EventLemmas.{length-put}
 use Rattle.mi_entries.specs.Actors.{Actor, Owed}
 use Rattle.mi_core.specs.Effects.{paid, post_route, saw, trim_leaf, trim_node}
-use Rattle.mi_core.specs.Events.{Can, Event, after, hand}
+use Rattle.mi_core.specs.Events.{Can, after, hand}
 use Rattle.mi_core.specs.Events as core
 use Rattle.mi_core.specs.Events.Event.{grow, post, refuse, split_page, trim, visit}
 use Rattle.mi_core.specs.Kept.{Kept}
-use Rattle.mi_core.specs.Pages.{forest_of, node_or_fresh}
+use Rattle.mi_core.specs.Pages.{node_or_fresh}
 use Rattle.mi_core.specs.Refusals.Refusal.{grown}
 use Rattle.mi_core.specs.State.{State, node_at}
 use Rattle.mi_core.proofs.ActorLemmas.{set_there}
@@ -387,6 +386,14 @@ module _ (s : State) (k : Kept s) (a : ℕ) (r : Actor) (there : slice_get s.act
       answer = ((λ same. omega (arith, same, can)), refl, refl, can);
     }
 
+-- no linked page is higher than the root
+pub not_higher : (s : State) → Kept s → (page : ℕ) (node : Node) → node_at s.pages page ≡ Some node → node.level ≤ s.board.height
+not_higher s k page node here = elim (cases_lt s.board.height node.level) [
+  | inl lt ↦ absurd (false≢true (ap (has page) (sym (k.sound.pages.forest.top node.level (omega (arith, k.sound.pages.height))))
+      ∙ ap (λ o. has page (k.sound.chain (node_or_fresh o).level)) (sym here) ∙ k.sound.pages.linked page node here))
+  | inr le ↦ le
+]
+
 -- where a child's route may stand, and the root isn't of the level below, it is of this level at least
 module _ (s : State) (a : ℕ) (r : Actor) (level key child : ℕ) (i : IsChildAt (shown_to s a r) level key child) where
   below : (n : Node) × (node_at s.pages child ≡ Some n) × (n.level + 1 ≡ level) × (n.low ≡ key)
@@ -398,16 +405,7 @@ module _ (s : State) (a : ℕ) (r : Actor) (level key child : ℕ) (i : IsChildA
   can_grow p in_hand up = let n = below in (p, in_hand, up, i.later_key, n.0, n.1, (let l = n.2 in omega arith), n.3)
 
   pub grown_already : Kept s → s.board.height + 1 ≢ level → level ≤ s.board.height
-  grown_already k other = elim (cases_lt s.board.height below.0.level) [
-    | inl lt ↦ absurd (false≢true (ap (has child) (sym (k.sound.pages.forest.top below.0.level (omega (arith, k.sound.pages.height)))) ∙ linked_level))
-    | inr le ↦ (let l = below.2 in omega arith)
-  ]
-    where
-      f : Forest
-      f = forest_of s.board s.pages s.actors k.sound.chain
-
-      linked_level : has child (k.sound.chain below.0.level) ≡ true
-      linked_level = ap (λ o. has child (k.sound.chain (node_or_fresh o).level)) (sym below.1) ∙ k.sound.pages.linked child below.0 below.1
+  grown_already k other = let l = below.2 in omega (arith, not_higher s k child below.0 below.1)
 
   pub can_post : (page : ℕ) (node : Node) → node_at s.pages page ≡ Some node → (shown_to s a r).low page ≤ key → EndsAfter node level key → length node.routes < 32 → core.MayPost s node key child
   can_post page node here low e space = record {

@@ -1,16 +1,14 @@
 -- What sections of routes owe to hands and pages, and what they make of the state.
 use Rattle.std.proofs.Common.{◌≡◌, ◌≢◌, ℕ, ◌+◌, ◌<◌, ◌≤◌, ◌==◌, [], ◌∷◌, ◌++◌, length, get_or, set, cond, true, false, IsTrue, refl, sym, ap, ◌∙◌, subst, arith, Option, Some, None, inl, inr}
 use Rattle.std.specs.Prelude.{Bool}
-use Rattle.std.proofs.lemmas.Bool.{cases_lt, eqb-true, false≢true, ne_eqb}
+use Rattle.std.proofs.lemmas.Bool.{cases_lt, eqb-true, ne_eqb}
 use Rattle.std.proofs.lemmas.List.{length-map}
-use Rattle.mi_base.specs.Prefixes.{has}
 use Rattle.mi_board.specs.Boards.{BoardState, grown}
 use Rattle.mi_core.specs.Effects.{noted, paid, post_route, saw, trim_leaf, trim_node}
 use Rattle.mi_core.specs.Events.{Can, MayPost, hand}
 use Rattle.mi_core.specs.Events.Event.{grow, post, split_page, trim, visit}
 use Rattle.mi_core.specs.Kept.{Kept}
-use Rattle.mi_core.specs.Pages.{node_or_fresh}
-use Rattle.mi_core.specs.State.{State, node_at}
+use Rattle.mi_core.specs.State.{node_at}
 use Rattle.mi_entries.specs.Actors.{Actor}
 use Rattle.mi_key.specs.declared.entries.Entry.{Entry}
 use Rattle.mi_page.specs.declared.routes.Route.{Route}
@@ -23,14 +21,6 @@ use Rattle.mi_solo.specs.States.{Does, actor_in, actor_of, actors_of, is_linked,
 use Rattle.mi_solo.proofs.CoreLemmas.{comes_to, log_of, row_is, suits}
 use Rattle.mi_solo.proofs.PageLemmas.{node_here, page_here}
 use Rattle.mi_solo.proofs.ShardSections.{set_read}
-
--- no linked page is higher than the root
-pub not_higher : (s : State) → Kept s → (page : ℕ) (node : Node) → node_at s.pages page ≡ Some node → node.level ≤ s.board.height
-not_higher s k page node here = elim (cases_lt s.board.height node.level) [
-  | inl lt ↦ absurd (false≢true (ap (has page) (sym (k.sound.pages.forest.top node.level (omega (arith, k.sound.pages.height))))
-      ∙ ap (λ o. has page (k.sound.chain (node_or_fresh o).level)) (sym here) ∙ k.sound.pages.linked page node here))
-  | inr le ↦ le
-]
 
 -- a page of routes isn't trimmed
 pub routes_stay : (floor : ℕ) (n : Node) → 0 < n.level → trim_leaf floor n ≡ n

@@ -8,8 +8,9 @@ use Rattle.mi_solo.specs.declared.rows.ActorRow.{ActorRow}
 use Rattle.mi_solo.specs.States.{Does, actor_in, node_in, state_of}
 use Rattle.mi_solo.proofs.CoreLemmas.{some_of}
 use Rattle.mi_solo.proofs.PageLemmas.{node_here, page_here}
+use Rattle.mi_solo.proofs.RouteEvents.{not_higher}
 use Rattle.mi_solo.proofs.RouteLaws.{full_kept}
-use Rattle.mi_solo.proofs.RouteSections.{few_items, fresh_is, has_fresh, has_place, is_trimmed, not_higher, page_is_halved, trim_seen, trims_level}
+use Rattle.mi_solo.proofs.RouteSections.{few_items, fresh_is, has_fresh, has_place, is_trimmed, page_is_halved, trim_seen, trims_level}
 use Rattle.mi_solo.proofs.cores.Core.split_page.Goals as goal
 
 pub returns-then-len-lt-CAPACITY : goal.returns-then-len-lt-CAPACITY
