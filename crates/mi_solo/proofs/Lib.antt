@@ -37,3 +37,4 @@ pub mod SweepSections
 pub mod DeleteSection
 pub mod RouteSections
 pub mod GatherSections
+pub mod PublishSections

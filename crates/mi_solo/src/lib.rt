@@ -12,6 +12,7 @@ mod insert_section;
 mod keying;
 mod page_sections;
 mod pages;
+mod placing;
 mod route_sections;
 mod rows;
 mod seeking;

@@ -1,15 +1,16 @@
 //! Sections of splits.
-ghost use Rattle.std.specs.Prelude.{◌≡◌, ◌≤◌, None, IsSome, IsTrue};
+ghost use Rattle.std.specs.Prelude.{◌≡◌, ◌<◌, ◌≤◌, None, IsSome, IsTrue, length};
 ghost use Rattle.mi_core.specs.Events.Event.{give_up};
 ghost use Rattle.mi_core.specs.Kept.{Kept};
 ghost use Rattle.mi_solo.specs.States.{Does, IsGoing, actor_in, is_linked, node_in, state_of, view_in};
-ghost use Rattle.mi_solo.specs.WorkSections.{Gathers, GivesWork};
-ghost use Rattle.mi_world.specs.Splits.{MayGather, copied_in, gather_key};
+ghost use Rattle.mi_solo.specs.WorkSections.{Gathers, GivesWork, Publishes};
+ghost use Rattle.mi_world.specs.Splits.{IsGathered, MayGather, copied_in, gather_key, gathered_in};
 
 use crate::cell_keys::{cell_keys, end_key, first_key};
 use crate::cores::Core;
+use crate::placing::placed_objects;
 use crate::seeking::{Way, next_page, seek};
-use mi_base::NoMemory;
+use mi_base::{NoMemory, Position};
 use mi_tree::Work;
 use mi_world::Visit;
 use std::alloc::Global;
@@ -72,6 +73,59 @@ impl Core {
                     }),
                     Err(refusal) => Err(refusal),
                 }
+            }
+        }
+    }
+
+    /// How many entries the actor's split has gathered, 0 without one.
+    pub fn gathered(&self, actor: u32) -> usize
+        requires { actor < length self.now.actors.items }
+        ensures { result ≡ gathered_in (view_in (state_of self.now) actor) }
+    {
+        match &self.actors[actor as usize].split {
+            Some(work) => work.gathered.as_slice().len(),
+            None => 0,
+        }
+    }
+
+    /// How many of these it has copied, 0 without a split.
+    pub fn copied(&self, actor: u32) -> usize
+        requires { actor < length self.now.actors.items }
+        ensures { result ≡ copied_in (view_in (state_of self.now) actor) }
+    {
+        match &self.actors[actor as usize].split {
+            Some(work) => work.copied,
+            None => 0,
+        }
+    }
+
+    /// Enters the split of the leaf that the actor claims, all of which is gathered and copied.
+    pub fn publish(&mut self, alloc: Global, actor: u32) -> Result<Position, NoMemory>
+        requires going { IsGoing self.old actor }
+        requires kept { Kept (state_of self.old) }
+        requires whole { IsGathered (view_in (state_of self.old) actor) }
+        requires copied { (view_in (state_of self.old) actor).copied ≡ length (view_in (state_of self.old) actor).copies }
+        ensures { Publishes (state_of self.old) actor result (state_of self.new) }
+    {
+        let me = &mut self.actors[actor as usize];
+        let Some(work) = &me.split else {
+            unreachable!();
+        };
+        let objects = match placed_objects(alloc, &work.gathered) {
+            Ok(objects) => objects,
+            Err(refusal) => {
+                me.see(&self.board);
+                return Err(refusal);
+            }
+        };
+        match self.board.publish(alloc, actor, &objects) {
+            Ok(position) => {
+                me.end_split(&self.board);
+                Ok(position)
+            }
+            Err(refusal) => {
+                me.see(&self.board);
+                Err(refusal)
             }
         }
     }
