@@ -61,10 +61,14 @@ gathers_by s a r page w later result answer =
       sweep = record { sweep = refl; swept = refl };
       flags = record { undone = refl; early = refl };
       actors = record { absorbed = refl; forked = refl };
-      pin = refl; floor = refl; fresh = refl; owes = refl;
+      pin = refl;
+      floor = refl;
+      fresh = refl;
+      owes = refl;
       board = board_by s t a r q refl refl;
       tries = tries_by s t a r q refl refl;
-      page_is = refl; answer = answer;
+      page_is = refl;
+      answer = answer;
     }
 
 module _ (s : State) (k : Kept s) (a : ℕ) (r : Actor) (there : slice_get s.actors a ≡ Some r) (going : r.ended ≡ false) (page : ℕ) where
@@ -181,12 +185,18 @@ module _ (s : State) (k : Kept s) (a : ℕ) (r : Actor) (there : slice_get s.act
       few =
           let T : Entry → Bool = λ e. is_under g G.leaf e && (counts g log e && nat_lt e.key G.mark) in
           let shows = k'.sound.entries.shows (length log) (omega (arith, least_low (end_of log) s.board.actors, end_events log)) (omega arith) in
-          omega (arith, length-map G.gathered (λ e. (copy_in_child g G.leaf e).key), ap length its_work.gathered,
+          omega (
+            arith,
+            length-map G.gathered (λ e. (copy_in_child g G.leaf e).key),
+            ap length its_work.gathered,
             ap length (filter_twice (λ e. counts g log e && nat_lt e.key G.mark) (is_under g G.leaf) F),
             fewer T (counts g log) (λ e h. (and_parts (counts g log e) (nat_lt e.key G.mark) (and_parts (is_under g G.leaf e) (counts g log e && nat_lt e.key G.mark) h).1).0) F,
             length-map (filter (counts g log) F) born_in,
             same_length _ _ (subst (λ l. SameElements (map born_in (filter (counts g l) F)) (born (updates_of l))) (take_all (length log) log (omega arith)) shows.same),
-            born_few 0 [] (updates_of log), k.sound.legal.few, k.sound.limits.updates.1)
+            born_few 0 [] (updates_of log),
+            k.sound.legal.few,
+            k.sound.limits.updates.1,
+          )
 
       more : wg.copies ≡ copies_in v ++ map (λ e. (copy_in_child g W.leaf e).key) (marks.gathered_in g W node)
       more = map_more (λ e. (copy_in_child g W.leaf e).key) W.gathered (marks.gathered_in g W node) ∙ ap (λ ks. ks ++ map (λ e. (copy_in_child g W.leaf e).key) (marks.gathered_in g W node)) copies_are
@@ -216,10 +226,14 @@ module _ (s : State) (k : Kept s) (a : ℕ) (r : Actor) (there : slice_get s.act
             record {
               splitting = refl;
               marked = (le-leb (cell_end g W.leaf) (mark_past node.high (cell_end g W.leaf)) (omega (arith, m)), omega (arith, m, last_is));
-              more = map (λ e. (copy_in_child g W.leaf e).key) (marks.gathered_in g W node); gathered = more; few = few; copied = copied_is;
+              more = map (λ e. (copy_in_child g W.leaf e).key) (marks.gathered_in g W node);
+              gathered = more;
+              few = few;
+              copied = copied_is;
             },
             reached,
-            reads_to s k t (onward s k a r there (gather page node) can) a r qg page node can.0.there high_is (last_key v v.leaf) None can.0.level x)
+            reads_to s k t (onward s k a r there (gather page node) can) a r qg page node can.0.there high_is (last_key v v.leaf) None can.0.level x,
+          )
       gather_page (Some next) x =
           let on = reads_to s k t (onward s k a r there (gather page node) can) a r qg page node can.0.there high_is (last_key v v.leaf) (Some next) can.0.level x in
           let m = mark_on node.high (wg.low next) (last_key v v.leaf) (cell_end g W.leaf) last_is (sym high_is ∙ on.5) x.past in
@@ -227,9 +241,14 @@ module _ (s : State) (k : Kept s) (a : ℕ) (r : Actor) (there : slice_get s.act
             record {
               splitting = refl;
               marked = (lt-leb (cell_end g W.leaf) (mark_past node.high (cell_end g W.leaf)) (omega (arith, m.0, m.1)), m.0);
-              more = map (λ e. (copy_in_child g W.leaf e).key) (marks.gathered_in g W node); gathered = more; few = few; copied = copied_is;
+              more = map (λ e. (copy_in_child g W.leaf e).key) (marks.gathered_in g W node);
+              gathered = more;
+              few = few;
+              copied = copied_is;
             },
-            reached, on)
+            reached,
+            on,
+          )
 
 -- the same, of each event
 module _ (page : ℕ) where
@@ -240,18 +259,27 @@ module _ (page : ℕ) where
   module _ (node : Node) where
     pub gathers_down : (child : ℕ) → Makes (start page) (λ s v w. node_at s.pages page ≡ Some node → PointsDown node 0 (gather_key v) child → Gathers v w page (Ok (Down child)))
     gathers_down child = made (start page) (λ s v w. node_at s.pages page ≡ Some node → PointsDown node 0 (gather_key v) child → Gathers v w page (Ok (Down child)))
-        (λ s k a r there going can. (_, set_there s.actors a (with_split_at (Some (split_or (grid s.board.settings) (leaf_or r.claim) r.split)) page r) r there,
-          λ here x. gather_down s k a r there going page can.0 can.1 can node here child x))
+        (λ s k a r there going can. (
+          _,
+          set_there s.actors a (with_split_at (Some (split_or (grid s.board.settings) (leaf_or r.claim) r.split)) page r) r there,
+          λ here x. gather_down s k a r there going page can.0 can.1 can node here child x,
+        ))
 
     pub gathers_right : (next : ℕ) → Makes (start page) (λ s v w. node_at s.pages page ≡ Some node → PointsRight node 0 (gather_key v) next → Gathers v w page (Ok (Right next)))
     gathers_right next = made (start page) (λ s v w. node_at s.pages page ≡ Some node → PointsRight node 0 (gather_key v) next → Gathers v w page (Ok (Right next)))
-        (λ s k a r there going can. (_, set_there s.actors a (with_split_at (Some (split_or (grid s.board.settings) (leaf_or r.claim) r.split)) page r) r there,
-          λ here x. gather_right s k a r there going page can.0 can.1 can node here next x))
+        (λ s k a r there going can. (
+          _,
+          set_there s.actors a (with_split_at (Some (split_or (grid s.board.settings) (leaf_or r.claim) r.split)) page r) r there,
+          λ here x. gather_right s k a r there going page can.0 can.1 can node here next x,
+        ))
 
     pub gathers_on : (next : Option ℕ) → Makes (gather page node) (λ s v w. ReadsOn node (last_key v v.leaf) next → Gathers v w page (Ok (Read next)))
     gathers_on next = made (gather page node) (λ s v w. ReadsOn node (last_key v v.leaf) next → Gathers v w page (Ok (Read next)))
-        (λ s k a r there going can. (_, set_there s.actors a (with_split_at (Some (gather_more (grid s.board.settings) (split_or (grid s.board.settings) (leaf_or r.claim) r.split) node)) page r) r there,
-          λ x. gather_page s k a r there going page can.1 can.2 node can next x))
+        (λ s k a r there going can. (
+          _,
+          set_there s.actors a (with_split_at (Some (gather_more (grid s.board.settings) (split_or (grid s.board.settings) (leaf_or r.claim) r.split) node)) page r) r there,
+          λ x. gather_page s k a r there going page can.1 can.2 node can next x,
+        ))
 
 -- when it may be an event
 module _ (s : State) (k : Kept s) (a : ℕ) (r : Actor) (there : slice_get s.actors a ≡ Some r) (going : r.ended ≡ false) (may : MayGather (shown_to s a r)) (page : ℕ) (node : Node) (here : node_at s.pages page ≡ Some node) where
@@ -262,8 +290,13 @@ module _ (s : State) (k : Kept s) (a : ℕ) (r : Actor) (there : slice_get s.act
   can_start = (may.leaf, may.leaf_is, may_split, (node, here))
 
   pub can_gather : (shown_to s a r).low page ≤ gather_key (shown_to s a r) → EndsAfter node 0 (gather_key (shown_to s a r)) → Can s a r (gather page node)
-  can_gather low e = (record { there = here; level = e.level }, may.leaf, may.leaf_is, may_split,
-      subst (IsInside node.low node.high) (sym its) (record { from_low = omega (arith, ap (λ o. (node_or_fresh o).low) here, low); below_high = e.under }))
+  can_gather low e = (
+    record { there = here; level = e.level },
+    may.leaf,
+    may.leaf_is,
+    may_split,
+    subst (IsInside node.low node.high) (sym its) (record { from_low = omega (arith, ap (λ o. (node_or_fresh o).low) here, low); below_high = e.under }),
+  )
     where
       its : (split_or (grid s.board.settings) may.leaf r.split).mark ≡ gather_key (shown_to s a r)
       its = ap (λ n. (split_or (grid s.board.settings) n r.split).mark) (sym (ap leaf_or may.leaf_is)) ∙ mark_is s k a r there going page may.leaf may.leaf_is
