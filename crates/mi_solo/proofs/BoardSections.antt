@@ -1,5 +1,5 @@
 -- What sections of the board make of the state.
-use Rattle.std.proofs.Common.{◌≡◌, ◌≢◌, ℕ, ◌+◌, ◌<◌, List, [], ◌∷◌, length, get_or, set, Bool, true, false, IsTrue, refl, sym, ap, ◌∙◌, subst, arith, Option, Some, None, Ok, Err}
+use Rattle.std.proofs.Common.{◌≡◌, ℕ, ◌+◌, ◌<◌, List, length, get_or, set, true, IsTrue, refl, sym, ap, ◌∙◌, subst, Option, Some, None, Ok, Err}
 use Rattle.std.specs.Arc.{arc_value}
 use Rattle.std.proofs.lemmas.Bool.{false≢true}
 use Rattle.mi_base.specs.Permutations.{begins}
@@ -9,7 +9,6 @@ use Rattle.mi_board.specs.Boards as board
 use Rattle.mi_board.proofs.FoundLemmas.{kept_there}
 use Rattle.mi_core.specs.Effects.{looked, saw}
 use Rattle.mi_core.specs.Events.Event.{pin}
-use Rattle.mi_core.specs.Kept.{Kept}
 use Rattle.mi_core.specs.State.{State}
 use Rattle.mi_entries.specs.Actors.{Actor}
 use Rattle.mi_base.specs.History.{end_of}
@@ -26,8 +25,8 @@ use Rattle.mi_solo.specs.declared.cores.Core.{Core}
 use Rattle.mi_solo.specs.declared.rows.ActorRow.{ActorRow}
 use Rattle.mi_solo.specs.declared.rows.PinRow.{PinRow}
 use Rattle.mi_solo.specs.Sections.{Allots, ClaimsLeaf}
-use Rattle.mi_solo.specs.States.{Does, IsGoing, actor_in, actor_of, actors_of, pin_of, state_of}
-use Rattle.mi_solo.proofs.CoreLemmas.{comes_to, floor_is, log_of, on_board, suits}
+use Rattle.mi_solo.specs.States.{Does, actor_in, actor_of, actors_of, is_catalog_of, state_of}
+use Rattle.mi_solo.proofs.CoreLemmas.{cells_are, comes_to, log_of, pin_there}
 
 -- who claims the leaf of a permutation claims one that begins it
 pub claims_one : (perm : List ℕ) (o : Option (List ℕ)) → IsTrue (claims_leaf_of perm o) → (p : List ℕ) × (o ≡ Some p) × (begins p perm ≡ true)
@@ -36,7 +35,7 @@ claims_one perm (Some p) h = (p, refl, h)
 
 module _ (c : Core) (a : ℕ) (known : a < length c.actors.items) (row : ActorRow) (at : row ≡ get_or c.actors.items a row) (b : BoardState) (new : ActorRow) where
   abbrev then : State
-  then = record { board = b; shards = c.shards.items; pages = c.pages.items; actors = actors_of b.log 0 (set c.actors.items a new) }
+  then = record { board = b; shards = c.shards.items; pages = c.pages.items; actors = actors_of b.settings b.log 0 (set c.actors.items a new) }
 
   pub leaf_taken : (actor_in (state_of c) a).claim ≡ None → (actor_in (state_of c) a).sweep ≡ None → (perm : List ℕ) (r : LeafClaim) (leaf : Leaf) → r ≡ Taken leaf → board.ClaimsLeaf c.board a perm r b
       → new ≡ record row { seen = length b.log; claim = Some leaf.prefix } → ClaimsLeaf (state_of c) a perm r then
@@ -46,8 +45,8 @@ module _ (c : Core) (a : ℕ) (known : a < length c.actors.items) (row : ActorRo
       subst (λ r. ClaimsLeaf (state_of c) a perm r then) (sym is) (
         record {
           can = record { free = record { claim = free; sweep = idle }; leaf = kept_there perm (cells_of c.board.settings c.board.log) leaf told.0; unclaimed = told.1.0 };
-          is = comes_to c a known row at b to told.1.1 (λ m n. refl) c.shards.items c.shards.items refl c.pages.items c.pages.items refl new (λ (r : Actor). record (saw c.board r) { claim = Some leaf.prefix })
-              (ap (actor_of c.board.log a) e ∙ log_of c.board.log b to told.1.1 a (λ n. record row { seen = n; claim = Some leaf.prefix }));
+          is = comes_to c a known row at b to told.1.1 refl (λ m n. refl) c.shards.items c.shards.items refl c.pages.items c.pages.items refl new (λ (r : Actor). record (saw c.board r) { claim = Some leaf.prefix })
+              (ap (actor_of c.board.settings c.board.log a) e ∙ log_of c.board.settings c.board.log b to told.1.1 a (λ n. record row { seen = n; claim = Some leaf.prefix }));
         },
         told.0,
       )
@@ -60,8 +59,8 @@ module _ (c : Core) (a : ℕ) (known : a < length c.actors.items) (row : ActorRo
         one.0,
         record {
           can = record { claim = one.1; other = told.1.0 };
-          is = comes_to c a known row at b c.board told.1.1.1 (λ m n. refl) c.shards.items c.shards.items refl c.pages.items c.pages.items refl new (saw c.board)
-              (ap (actor_of c.board.log a) e ∙ log_of c.board.log b c.board told.1.1.1 a (λ n. record row { seen = n }));
+          is = comes_to c a known row at b c.board told.1.1.1 refl (λ m n. refl) c.shards.items c.shards.items refl c.pages.items c.pages.items refl new (saw c.board)
+              (ap (actor_of c.board.settings c.board.log a) e ∙ log_of c.board.settings c.board.log b c.board told.1.1.1 a (λ n. record row { seen = n }));
         },
         one.2,
       )
@@ -73,14 +72,15 @@ module _ (c : Core) (a : ℕ) (known : a < length c.actors.items) (row : ActorRo
       let to = pinned a c.board in
       let f : Actor → Actor = λ (r : Actor). record (looked c.board r) { pin = Some (record { at = end_of c.board.log; cells = cells_of c.board.settings c.board.log }) } in
       let now : p.at ≡ end_of c.board.log = here ∙ ap (λ (l : Look). l.at) told ∙ ap (λ (z : BoardState). end_of z.log) is in
-      let row_now : actor_of c.board.log a new ≡ f (actor_of c.board.log a row) =
-      ap (actor_of c.board.log a) e ∙ log_of c.board.log b to is a (λ n. record row { seen = n; floor = before.floor; pin = Some p })
-      ∙ ap (λ (l : Look). actor_of c.board.log a (record row { seen = length c.board.log; floor = l.floor; pin = Some p })) was
-      ∙ ap (λ q. record (looked c.board (actor_of c.board.log a row)) { pin = Some (record { at = q; cells = (arc_value p.cells).leaves }) }) now
-      ∙ ap (λ (k : CatalogState). record (looked c.board (actor_of c.board.log a row)) { pin = Some (record { at = end_of c.board.log; cells = k.leaves }) }) cells in (
+      let row_now : actor_of c.board.settings c.board.log a new ≡ f (actor_of c.board.settings c.board.log a row) =
+      ap (actor_of c.board.settings c.board.log a) e ∙ log_of c.board.settings c.board.log b to is a (λ n. record row { seen = n; floor = before.floor; pin = Some p })
+      ∙ ap (λ (l : Look). actor_of c.board.settings c.board.log a (record row { seen = length c.board.log; floor = l.floor; pin = Some p })) was
+      ∙ ap (λ o. record (looked c.board (actor_of c.board.settings c.board.log a row)) { pin = o }) (pin_there c.board.settings p (ap (is_catalog_of c.board.settings) cells ∙ cells_are c.board.settings c.board.log))
+      ∙ ap (λ q. record (looked c.board (actor_of c.board.settings c.board.log a row)) { pin = Some (record { at = q; cells = (arc_value p.cells).leaves }) }) now
+      ∙ ap (λ (k : CatalogState). record (looked c.board (actor_of c.board.settings c.board.log a row)) { pin = Some (record { at = end_of c.board.log; cells = k.leaves }) }) cells in (
         record {
           can = free;
-          is = comes_to c a known row at b to is (λ m n. refl) c.shards.items c.shards.items refl c.pages.items c.pages.items refl new f row_now;
+          is = comes_to c a known row at b to is refl (λ m n. refl) c.shards.items c.shards.items refl c.pages.items c.pages.items refl new f row_now;
         },
         told,
       )
@@ -91,16 +91,16 @@ module _ (c : Core) (a : ℕ) (known : a < length c.actors.items) (row : ActorRo
       let to = record c.board { allotted = c.board.allotted + 1 } in
       record {
         can = (free, told.0);
-        is = comes_to c a known row at b to told.1 (λ m n. refl) c.shards.items c.shards.items refl c.pages.items c.pages.items refl new (λ (r : Actor). record (saw c.board r) { fresh = Some c.board.allotted })
-            (ap (actor_of c.board.log a) e ∙ log_of c.board.log b to told.1 a (λ n. record row { seen = n; hand = held }) ∙ ap (λ h. actor_of c.board.log a (record row { seen = length c.board.log; hand = h })) told.2);
+        is = comes_to c a known row at b to told.1 refl (λ m n. refl) c.shards.items c.shards.items refl c.pages.items c.pages.items refl new (λ (r : Actor). record (saw c.board r) { fresh = Some c.board.allotted })
+            (ap (actor_of c.board.settings c.board.log a) e ∙ log_of c.board.settings c.board.log b to told.1 a (λ n. record row { seen = n; hand = held }) ∙ ap (λ h. actor_of c.board.settings c.board.log a (record row { seen = length c.board.log; hand = h })) told.2);
       }
 
   pub pages_refused : (limit : ℕ) (held : InHand) → TakesPage c.board row.hand (Err (PagesFull limit)) b held → new ≡ record row { seen = length b.log; hand = held } → Allots (state_of c) a (Err (PagesFull limit)) then
   pages_refused limit held told e = (
     record {
       can = told.1 ∙ told.0;
-      is = comes_to c a known row at b c.board told.2 (λ m n. refl) c.shards.items c.shards.items refl c.pages.items c.pages.items refl new (saw c.board)
-          (ap (actor_of c.board.log a) e ∙ log_of c.board.log b c.board told.2 a (λ n. record row { seen = n; hand = held }) ∙ ap (λ h. actor_of c.board.log a (record row { seen = length c.board.log; hand = h })) told.3);
+      is = comes_to c a known row at b c.board told.2 refl (λ m n. refl) c.shards.items c.shards.items refl c.pages.items c.pages.items refl new (saw c.board)
+          (ap (actor_of c.board.settings c.board.log a) e ∙ log_of c.board.settings c.board.log b c.board told.2 a (λ n. record row { seen = n; hand = held }) ∙ ap (λ h. actor_of c.board.settings c.board.log a (record row { seen = length c.board.log; hand = h })) told.3);
     },
     told.0,
   )
@@ -108,6 +108,6 @@ module _ (c : Core) (a : ℕ) (known : a < length c.actors.items) (row : ActorRo
   pub page_lacked : (actor_in (state_of c) a).fresh ≡ None → (held : InHand) → TakesPage c.board row.hand (Err Memory) b held → new ≡ record row { seen = length b.log; hand = held; lacked = true } → Allots (state_of c) a (Err Memory) then
   page_lacked free held told e = record {
     can = free;
-    is = comes_to c a known row at b c.board told.0 (λ m n. refl) c.shards.items c.shards.items refl c.pages.items c.pages.items refl new (λ (r : Actor). record (saw c.board r) { lacked = true })
-        (ap (actor_of c.board.log a) e ∙ log_of c.board.log b c.board told.0 a (λ n. record row { seen = n; hand = held; lacked = true }) ∙ ap (λ h. actor_of c.board.log a (record row { seen = length c.board.log; hand = h; lacked = true })) told.1);
+    is = comes_to c a known row at b c.board told.0 refl (λ m n. refl) c.shards.items c.shards.items refl c.pages.items c.pages.items refl new (λ (r : Actor). record (saw c.board r) { lacked = true })
+        (ap (actor_of c.board.settings c.board.log a) e ∙ log_of c.board.settings c.board.log b c.board told.0 a (λ n. record row { seen = n; hand = held; lacked = true }) ∙ ap (λ h. actor_of c.board.settings c.board.log a (record row { seen = length c.board.log; hand = h; lacked = true })) told.1);
   }

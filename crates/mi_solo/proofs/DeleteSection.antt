@@ -1,5 +1,5 @@
 -- What the commit of a delete makes of the state.
-use Rattle.std.proofs.Common.{◌≡◌, ◌≢◌, ℕ, ◌+◌, ◌<◌, ◌≤◌, ◌==◌, List, [], ◌∷◌, length, map, get_or, set, Bool, true, false, refl, sym, ap, ◌∙◌, subst, arith, Option, Some, None}
+use Rattle.std.proofs.Common.{◌≡◌, ℕ, ◌+◌, ◌<◌, ◌≤◌, ◌==◌, length, map, get_or, set, true, false, refl, sym, ap, ◌∙◌, subst, arith, Option, Some}
 use Rattle.std.specs.List.{find}
 use Rattle.mi_base.specs.declared.records.Update.TheVariants.{Delete}
 use Rattle.mi_base.specs.History.{updates_of}
@@ -25,7 +25,7 @@ use Rattle.mi_world.specs.declared.answers.Record.{Record}
 use Rattle.mi_solo.specs.Viewing.{record_shown, records_in}
 use Rattle.mi_solo.specs.States.{Does, actor_in, actor_of, actors_of, node_in, state_of, view_in}
 use Rattle.mi_solo.proofs.CanLemmas.{can_delete, delete_living}
-use Rattle.mi_solo.proofs.CoreLemmas.{comes_to, read_is, row_is, suits, there}
+use Rattle.mi_solo.proofs.CoreLemmas.{comes_to, read_is, suits, there}
 use Rattle.mi_solo.proofs.InsertSection.{made_mine, made_others}
 
 -- where the key lies in the page, that tells the answer
@@ -64,7 +64,7 @@ module _ (c : Core) (a : ℕ) (known : a < length c.actors.items) (k : Kept (sta
       → (number : ℕ) → number ≡ length (updates_of c.board.log) + 1 → (marked : Node) → marked ≡ record node { entries = map (with_death key number) node.entries }
       → (new : ActorRow) → new ≡ record row { seen = length b.log; reserved = false; reserved_here = false; page = page }
       → Does (state_of c) a (delete op id page (node_in (state_of c) page) (rows_at (state_of c) (home id)) (delete_key (view_in (state_of c) a) id))
-      (record { board = b; shards = set c.shards.items (home id) now; pages = set c.pages.items page (Some marked); actors = actors_of b.log 0 (set c.actors.items a new) })
+      (record { board = b; shards = set c.shards.items (home id) now; pages = set c.pages.items page (Some marked); actors = actors_of b.settings b.log 0 (set c.actors.items a new) })
   is_deleted op b is was now at_home kept_now number counted marked mark_is new e_row =
       let to = with_update a op (Delete id) c.board in
       let r = actor_in (state_of c) a in
@@ -78,9 +78,9 @@ module _ (c : Core) (a : ℕ) (known : a < length c.actors.items) (k : Kept (sta
       mark_is ∙ ap (λ n. mark_entry n number node) key_is ∙ ap (λ n. mark_entry dk n node) counted ∙ ap (mark_entry dk (length (updates_of c.board.log) + 1)) (sym it) in
       record {
         can = subst (λ n. CanDelete (state_of c) r id page n (shard_at c.shards.items (home id)).rows dk) (sym it) may_delete;
-        is = comes_to c a known row at b to is (made_others c.board.log a op (Delete id)) (set c.shards.items (home id) now) (set c.shards.items (home id) (held_by (Some a) (without_id id (rows_at (state_of c) (home id)))))
+        is = comes_to c a known row at b to is refl (made_others c.board.log a op (Delete id)) (set c.shards.items (home id) now) (set c.shards.items (home id) (held_by (Some a) (without_id id (rows_at (state_of c) (home id)))))
             (ap (set c.shards.items (home id)) shard_is) (set c.pages.items page (Some marked)) (set c.pages.items page (Some (mark_entry dk (length (updates_of c.board.log) + 1) (node_in (state_of c) page)))) (ap (λ n. set c.pages.items page (Some n)) node_is)
             new (committed to a op (Delete id) page)
-            (ap (actor_of to.log a) e_row ∙ ap (λ (z : BoardState). actor_of to.log a (record row { seen = length z.log; reserved = false; reserved_here = false; page = page })) is
-            ∙ ap (λ own. record (actor_of to.log a (record row { seen = length to.log; reserved = false; reserved_here = false; page = page })) { own = own }) (made_mine c.board.log a op (Delete id)));
+            (ap (actor_of to.settings to.log a) e_row ∙ ap (λ (z : BoardState). actor_of to.settings to.log a (record row { seen = length z.log; reserved = false; reserved_here = false; page = page })) is
+            ∙ ap (λ own. record (actor_of to.settings to.log a (record row { seen = length to.log; reserved = false; reserved_here = false; page = page })) { own = own }) (made_mine c.board.log a op (Delete id)));
       }

@@ -100,10 +100,10 @@ module _ (c : Core) (a : ℕ) (known : a < length c.actors.items) (kept : Kept (
     N = node_in (state_of c) page
 
     abbrev then : State
-    then = record { board = c.board; shards = c.shards.items; pages = c.pages.items; actors = actors_of c.board.log 0 (set c.actors.items a new) }
+    then = record { board = c.board; shards = c.shards.items; pages = c.pages.items; actors = actors_of c.board.settings c.board.log 0 (set c.actors.items a new) }
 
-    split_alone : (o : Option SplitWork) → split_of new.split ≡ o → actor_of c.board.log a new ≡ with_split_at o page (actor_of c.board.log a row)
-    split_alone o e = ap (actor_of c.board.log a) rest ∙ ap (λ x. with_split_at x page (actor_of c.board.log a row)) e
+    split_alone : (o : Option SplitWork) → split_of new.split ≡ o → actor_of c.board.settings c.board.log a new ≡ with_split_at o page (actor_of c.board.settings c.board.log a row)
+    split_alone o e = ap (actor_of c.board.settings c.board.log a) rest ∙ ap (λ x. with_split_at x page (actor_of c.board.settings c.board.log a row)) e
 
     -- nothing is gathered
     pub started : split_of new.split ≡ Some W → Does (state_of c) a (start page) then

@@ -1,5 +1,5 @@
 -- What the commit of an insert owes to the board, the page and the shard, and what it makes of the state.
-use Rattle.std.proofs.Common.{◌≡◌, ◌≢◌, ◌⊎◌, ℕ, ℤ, ◌+◌, ◌<◌, ◌≤◌, ◌==◌, ◌^◌, List, [], ◌∷◌, ◌++◌, length, map, get_or, set, Bool, true, false, cond, IsTrue, inl, inr, refl, sym, ap, ◌∙◌, subst, arith, Option, Some, None, Ok, Err, Result, append-nil, eq-eqb}
+use Rattle.std.proofs.Common.{◌≡◌, ◌≢◌, ℕ, ℤ, ◌+◌, ◌<◌, ◌≤◌, ◌==◌, ◌^◌, List, [], ◌∷◌, ◌++◌, length, get_or, set, Bool, false, cond, refl, sym, ap, ◌∙◌, subst, arith, Some, None, Err, append-nil, eq-eqb}
 use Rattle.std.proofs.lemmas.Bool.{false≢true, ne_eqb}
 use Rattle.std.proofs.lemmas.List.{length-map}
 use Rattle.std.proofs.lemmas.List.Elements.{filter-append}
@@ -127,7 +127,7 @@ module _ (c : Core) (a : ℕ) (known : a < length c.actors.items) (k : Kept (sta
       → now ≡ held_by was.holder (with_record (record { id = id; birth = e.birth; dists = e.dists.items }) was.rows) → (put_in : Node) → put_in ≡ record trimmed { entries = put entry_cmp e trimmed.entries }
       → (new : ActorRow) → new ≡ record row { seen = length b.log; reserved = false; reserved_here = false; page = page }
       → Does (state_of c) a (insert op id page (node_in (state_of c) page) (rows_at (state_of c) (home id)) e)
-      (record { board = b; shards = set c.shards.items (home id) now; pages = set c.pages.items page (Some put_in); actors = actors_of b.log 0 (set c.actors.items a new) })
+      (record { board = b; shards = set c.shards.items (home id) now; pages = set c.pages.items page (Some put_in); actors = actors_of b.settings b.log 0 (set c.actors.items a new) })
   is_entered op b is was now at_home kept_now put_in put_is new e_row =
       let to = with_update a op (Insert id e.vector) c.board in
       let r = actor_in (state_of c) a in
@@ -141,9 +141,9 @@ module _ (c : Core) (a : ℕ) (known : a < length c.actors.items) (k : Kept (sta
       put_is ∙ ap (λ (n : Node). record n { entries = put entry_cmp e n.entries }) trim ∙ ap (λ f. put_entry f e node) (sym floor) ∙ ap (put_entry r.floor.updates e) (sym it) in
       record {
         can = subst (λ n. CanInsert (state_of c) r id page n (shard_at c.shards.items (home id)).rows e) (sym it) may_enter;
-        is = comes_to c a known row at b to is (made_others c.board.log a op (Insert id e.vector)) (set c.shards.items (home id) now) (set c.shards.items (home id) (held_by (Some a) (with_record y (rows_at (state_of c) (home id)))))
+        is = comes_to c a known row at b to is refl (made_others c.board.log a op (Insert id e.vector)) (set c.shards.items (home id) now) (set c.shards.items (home id) (held_by (Some a) (with_record y (rows_at (state_of c) (home id)))))
             (ap (set c.shards.items (home id)) shard_is) (set c.pages.items page (Some put_in)) (set c.pages.items page (Some (put_entry r.floor.updates e (node_in (state_of c) page)))) (ap (λ n. set c.pages.items page (Some n)) node_is)
             new (committed to a op (Insert id e.vector) page)
-            (ap (actor_of to.log a) e_row ∙ ap (λ (z : BoardState). actor_of to.log a (record row { seen = length z.log; reserved = false; reserved_here = false; page = page })) is
-            ∙ ap (λ own. record (actor_of to.log a (record row { seen = length to.log; reserved = false; reserved_here = false; page = page })) { own = own }) (made_mine c.board.log a op (Insert id e.vector)));
+            (ap (actor_of to.settings to.log a) e_row ∙ ap (λ (z : BoardState). actor_of to.settings to.log a (record row { seen = length z.log; reserved = false; reserved_here = false; page = page })) is
+            ∙ ap (λ own. record (actor_of to.settings to.log a (record row { seen = length to.log; reserved = false; reserved_here = false; page = page })) { own = own }) (made_mine c.board.log a op (Insert id e.vector)));
       }

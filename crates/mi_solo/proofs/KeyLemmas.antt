@@ -1,15 +1,19 @@
 -- The parts of the keys that calls make fit into keys.
-use Rattle.std.proofs.Common.{◌≡◌, ◌==◌, ℕ, ℤ, ◌+◌, ◌-◌, ◌^◌, ◌<◌, ◌≤◌, List, [], length, take, true, ◌&&◌, nat_lt, sym, ap, ◌∙◌, subst, arith, Some}
+use Rattle.std.proofs.Common.{◌≡◌, ◌==◌, ℕ, ℤ, ◌+◌, ◌-◌, ◌^◌, ◌<◌, ◌≤◌, List, [], length, map, take, true, ◌&&◌, nat_lt, sym, ap, ◌∙◌, subst, arith, Some}
 use Rattle.std.specs.Prelude.{slice_get}
-use Rattle.std.specs.List.{AllByRecursion}
+use Rattle.std.specs.List.{AllByRecursion, filter}
+use Rattle.std.proofs.lemmas.Bool.{and_parts}
+use Rattle.std.proofs.lemmas.List.{length-map, take_all}
 use Rattle.std.proofs.lemmas.Option.{slice_get_within}
 use Rattle.mi_base.specs.declared.records.LogEvent.{LogEvent}
 use Rattle.mi_base.specs.declared.records.Update.TheVariants.{Insert}
 use Rattle.mi_base.specs.Configuration.{Configuration}
-use Rattle.mi_base.specs.History.{updates_of}
+use Rattle.mi_base.specs.History.{end_of, updates_of}
 use Rattle.mi_base.specs.Permutations.{begins, key_distance, permutation_of}
 use Rattle.mi_base.specs.Prefixes.{all_below}
-use Rattle.mi_base.proofs.SortingLemmas.{filter_keeps}
+use Rattle.mi_base.specs.Sorting.{SameElements}
+use Rattle.mi_base.proofs.SortingLemmas.{filter_keeps, same_length}
+use Rattle.mi_board.proofs.FloorLemmas.{end_events, least_low}
 use Rattle.mi_key.specs.declared.entries.Entry.{Entry}
 use Rattle.mi_key.specs.declared.keys.KeyParts.{KeyParts}
 use Rattle.mi_key.specs.Clusters.{cluster_of}
@@ -17,7 +21,7 @@ use Rattle.mi_key.specs.Keys.{key_of, parts_of}
 use Rattle.mi_tree.specs.Births.{Born, born}
 use Rattle.mi_tree.specs.Cells.{Grid}
 use Rattle.mi_tree.proofs.LegalLemmas.{all_may}
-use Rattle.mi_tree.proofs.ListLemmas.{all_weaker}
+use Rattle.mi_tree.proofs.ListLemmas.{all_weaker, filter_twice}
 use Rattle.mi_entries.specs.Actors.{Actor, SplitWork}
 use Rattle.mi_entries.specs.Entries.{HasPlace, IsEntry, born_in, counts, grid, id_of, is_under, under}
 use Rattle.mi_entries.specs.Splits.{IsWork}
@@ -35,6 +39,7 @@ use Rattle.mi_world.specs.View.{Agrees}
 use Rattle.mi_solo.specs.Seeking.{IsCopied}
 use Rattle.mi_solo.specs.Viewing.{shown_to}
 use Rattle.mi_solo.proofs.BoardLemmas.{sees_board}
+use Rattle.mi_solo.proofs.MarkLemmas.{born_few, fewer}
 use Rattle.mi_solo.proofs.ReaderLemmas.{inserted_fits}
 
 module _ (s : State) (k : Kept s) (a : ℕ) (r : Actor) (there : slice_get s.actors a ≡ Some r) where
@@ -85,6 +90,21 @@ module _ (s : State) (k : Kept s) (a : ℕ) (r : Actor) (there : slice_get s.act
         (all_both (IsEntry c log) (λ e. is_under g w.leaf e ≡ true) (under g w.leaf F)
         (filter_keeps (IsEntry c log) (is_under g w.leaf) F (all_weaker (HasPlace c log s.actors s.board.retired) (IsEntry c log) (λ e h. h.is) F k.sound.entries.places))
         (all_passes (is_under g w.leaf) F)))
+
+    pub gathered_few : length w.gathered ≤ 200000
+    gathered_few =
+        let shows = k.sound.entries.shows (length log) (omega (arith, least_low (end_of log) s.board.actors, end_events log)) (omega arith) in
+        omega (
+          arith,
+          ap length work.gathered,
+          ap length (filter_twice (λ e. counts g log e && nat_lt e.key w.mark) (is_under g w.leaf) F),
+          fewer (λ e. is_under g w.leaf e && (counts g log e && nat_lt e.key w.mark)) (counts g log)
+              (λ e h. (and_parts (counts g log e) (nat_lt e.key w.mark) (and_parts (is_under g w.leaf e) (counts g log e && nat_lt e.key w.mark) h).1).0) F,
+          length-map (filter (counts g log) F) born_in,
+          same_length _ _ (subst (λ l. SameElements (map born_in (filter (counts g l) F)) (born (updates_of l))) (take_all (length log) log (omega arith)) shows.same),
+          born_few 0 [] (updates_of log),
+          few,
+        )
 
     one : (e : Entry) → IsEntry c log e × (is_under g w.leaf e ≡ true) → IsCopied s.board.settings w.leaf e
     one e h =

@@ -29,6 +29,10 @@ pub mod CopyEvents
 pub mod SweepEvents
 pub mod KeyLemmas
 pub mod SoloLemmas
+pub mod AnswerLemmas
+pub mod PageAnswers
+pub mod WorkAnswers
+pub mod RouteAnswers
 pub mod PageLemmas
 pub mod InsertSection
 pub mod WorkSections
@@ -38,3 +42,5 @@ pub mod DeleteSection
 pub mod RouteSections
 pub mod GatherSections
 pub mod PublishSections
+pub mod CopySections
+pub mod CopyAnswers

@@ -1,8 +1,7 @@
 -- What sections of the shards make of the state.
-use Rattle.std.proofs.Common.{◌≡◌, ℕ, suc, zero, ◌+◌, ◌<◌, ◌%◌, ◌==◌, List, [], ◌∷◌, length, get_or, set, Bool, true, false, refl, sym, ap, ◌∙◌, subst, arith, Option, Some, None, is_some, Err, Ok}
+use Rattle.std.proofs.Common.{◌≡◌, ℕ, ◌+◌, ◌<◌, ◌==◌, List, length, get_or, set, true, false, refl, sym, ap, ◌∙◌, subst, arith, Option, Some, None, is_some, Err, Ok}
 use Rattle.std.specs.List.{find}
 use Rattle.std.proofs.lemmas.List.{set-get_or}
-use Rattle.mi_base.specs.History.{updates_of}
 use Rattle.mi_board.specs.Actors.{with_reserved}
 use Rattle.mi_board.specs.Boards.{BoardState, look_of, with_actor}
 use Rattle.mi_core.specs.Effects.{looked, saw}
@@ -30,37 +29,37 @@ set_read xs i x e = ap (set xs i) e ∙ set-get_or xs i x
 module _ (c : Core) (a : ℕ) (known : a < length c.actors.items) (kept : Kept (state_of c)) (row : ActorRow) (at : row ≡ get_or c.actors.items a row) (new : ActorRow) (k : ℕ) (low : k < length c.shards.items) where
   pub shard_missed : (id : ℕ) → k ≡ home id → (actor_in (state_of c) a).shard ≡ None → (was : Shard) → was ≡ get_or c.shards.items k was → (by : Option ℕ) → by ≡ was.holder → is_some by ≡ true
       → new ≡ record row { tried = k; found = by }
-      → Does (state_of c) a (miss_shard (home id)) (record { board = c.board; shards = c.shards.items; pages = c.pages.items; actors = actors_of c.board.log 0 (set c.actors.items a new) })
+      → Does (state_of c) a (miss_shard (home id)) (record { board = c.board; shards = c.shards.items; pages = c.pages.items; actors = actors_of c.board.settings c.board.log 0 (set c.actors.items a new) })
   shard_missed id is free was there by its some e =
-      let t : State = record { board = c.board; shards = c.shards.items; pages = c.pages.items; actors = actors_of c.board.log 0 (set c.actors.items a new) } in
+      let t : State = record { board = c.board; shards = c.shards.items; pages = c.pages.items; actors = actors_of c.board.settings c.board.log 0 (set c.actors.items a new) } in
       let holder : by ≡ (shard_at c.shards.items k).holder = its ∙ ap (λ (x : Shard). x.holder) (read_is c.shards.items k no_shard was low there) in
       let one = some_of by some in
       subst (λ n. Does (state_of c) a (miss_shard n) t) is (record {
         can = ((let many = kept.sound.sixteen in omega arith), free, one.0, sym holder ∙ one.1);
-        is = comes_to c a known row at c.board c.board refl (λ m n. refl) c.shards.items c.shards.items refl c.pages.items c.pages.items refl new (λ (r : Actor). record r { tried = k; found = (shard_at c.shards.items k).holder })
-            (ap (actor_of c.board.log a) e ∙ ap (λ o. actor_of c.board.log a (record row { tried = k; found = o })) holder);
+        is = comes_to c a known row at c.board c.board refl refl (λ m n. refl) c.shards.items c.shards.items refl c.pages.items c.pages.items refl new (λ (r : Actor). record r { tried = k; found = (shard_at c.shards.items k).holder })
+            (ap (actor_of c.board.settings c.board.log a) e ∙ ap (λ o. actor_of c.board.settings c.board.log a (record row { tried = k; found = o })) holder);
       })
 
   pub shard_claimed : (id : ℕ) → k ≡ home id → (actor_in (state_of c) a).shard ≡ None → (was : Shard) → was ≡ get_or c.shards.items k was → was.holder ≡ None → (now : Shard) → now ≡ held_by (Some a) was.rows
       → new ≡ record row { shard = Some k; tried = k; found = None; reserved_here = false } → (answer : Option Record) → answer ≡ record_shown (find (λ x. x.id == id) now.rows.records)
-      → Does (state_of c) a (claim_shard (home id) (rows_at (state_of c) (home id))) (record { board = c.board; shards = set c.shards.items k now; pages = c.pages.items; actors = actors_of c.board.log 0 (set c.actors.items a new) })
+      → Does (state_of c) a (claim_shard (home id) (rows_at (state_of c) (home id))) (record { board = c.board; shards = set c.shards.items k now; pages = c.pages.items; actors = actors_of c.board.settings c.board.log 0 (set c.actors.items a new) })
       × (answer ≡ record_shown (find (λ x. x.id == id) (rows_at (state_of c) (home id)).records))
   shard_claimed id is free was there none now given e answer told =
-      let t : State = record { board = c.board; shards = set c.shards.items k now; pages = c.pages.items; actors = actors_of c.board.log 0 (set c.actors.items a new) } in
+      let t : State = record { board = c.board; shards = set c.shards.items k now; pages = c.pages.items; actors = actors_of c.board.settings c.board.log 0 (set c.actors.items a new) } in
       let it : was ≡ shard_at c.shards.items k = read_is c.shards.items k no_shard was low there in
       subst (λ n. Does (state_of c) a (claim_shard n (rows_at (state_of c) n)) t × (answer ≡ record_shown (find (λ x. x.id == id) (rows_at (state_of c) n).records))) is (
         record {
           can = ((let many = kept.sound.sixteen in omega arith), free, refl, ap (λ (x : Shard). x.holder) (sym it) ∙ none);
-          is = comes_to c a known row at c.board c.board refl (λ m n. refl) (set c.shards.items k now) (set c.shards.items k (held_by (Some a) (shard_at c.shards.items k).rows))
+          is = comes_to c a known row at c.board c.board refl refl (λ m n. refl) (set c.shards.items k now) (set c.shards.items k (held_by (Some a) (shard_at c.shards.items k).rows))
               (ap (set c.shards.items k) (given ∙ ap (λ (x : Shard). held_by (Some a) x.rows) it)) c.pages.items c.pages.items refl new
-              (λ (r : Actor). record r { shard = Some k; tried = k; found = None; reserved_here = false }) (ap (actor_of c.board.log a) e);
+              (λ (r : Actor). record r { shard = Some k; tried = k; found = None; reserved_here = false }) (ap (actor_of c.board.settings c.board.log a) e);
         },
         told ∙ ap (λ (x : Shard). record_shown (find (λ x. x.id == id) x.rows.records)) (given ∙ ap (λ (x : Shard). held_by (Some a) x.rows) it),
       )
 
   module _ (was : Shard) (there : was ≡ get_or c.shards.items k was) (held : (actor_in (state_of c) a).shard ≡ Some k) (b : BoardState) (now : Shard) where
     abbrev then : State
-    then = record { board = b; shards = set c.shards.items k now; pages = c.pages.items; actors = actors_of b.log 0 (set c.actors.items a new) }
+    then = record { board = b; shards = set c.shards.items k now; pages = c.pages.items; actors = actors_of b.settings b.log 0 (set c.actors.items a new) }
 
     it : was ≡ shard_at c.shards.items k
     it = read_is c.shards.items k no_shard was low there
@@ -76,18 +75,18 @@ module _ (c : Core) (a : ℕ) (known : a < length c.actors.items) (kept : Kept (
         let now_is : now ≡ mine (shard_at c.shards.items k) = told.3 ∙ ap (λ o. held_by o (record was.rows { room = length was.rows.records + 1 })) holder ∙ ap mine it in (
           record {
             can = (held ∙ ap Some (sym n), refl, omega arith, told.0);
-            is = comes_to c a known row at b to told.2 (λ m n. refl) (set c.shards.items k now) (set c.shards.items (hand (actor_in (state_of c) a).shard) (mine (shard_at c.shards.items (hand (actor_in (state_of c) a).shard))))
+            is = comes_to c a known row at b to told.2 refl (λ m n. refl) (set c.shards.items k now) (set c.shards.items (hand (actor_in (state_of c) a).shard) (mine (shard_at c.shards.items (hand (actor_in (state_of c) a).shard))))
                 (ap (set c.shards.items k) now_is ∙ ap (λ m. set c.shards.items m (mine (shard_at c.shards.items m))) (sym n)) c.pages.items c.pages.items refl new
                 (λ (r : Actor). record (looked c.board r) { reserved = true; reserved_here = true })
-                (ap (actor_of c.board.log a) e ∙ log_of c.board.log b to told.2 a (λ n. record row { seen = n; floor = before.floor; reserved = true; reserved_here = true })
-                ∙ ap (λ (l : Look). actor_of c.board.log a (record row { seen = length c.board.log; floor = l.floor; reserved = true; reserved_here = true })) was_look);
+                (ap (actor_of c.board.settings c.board.log a) e ∙ log_of c.board.settings c.board.log b to told.2 a (λ n. record row { seen = n; floor = before.floor; reserved = true; reserved_here = true })
+                ∙ ap (λ (l : Look). actor_of c.board.settings c.board.log a (record row { seen = length c.board.log; floor = l.floor; reserved = true; reserved_here = true })) was_look);
           },
           told.1,
         )
 
     same_state : b ≡ c.board → now ≡ was → new ≡ record row { seen = length b.log } → then ≡ record { board = c.board; shards = c.shards.items; pages = c.pages.items; actors = set (state_of c).actors a (saw c.board (actor_in (state_of c) a)) }
-    same_state is one e = comes_to c a known row at b c.board is (λ m n. refl) (set c.shards.items k now) c.shards.items (ap (set c.shards.items k) one ∙ set_read c.shards.items k was there) c.pages.items c.pages.items refl new (saw c.board)
-        (ap (actor_of c.board.log a) e ∙ log_of c.board.log b c.board is a (λ n. record row { seen = n }))
+    same_state is one e = comes_to c a known row at b c.board is refl (λ m n. refl) (set c.shards.items k now) c.shards.items (ap (set c.shards.items k) one ∙ set_read c.shards.items k was there) c.pages.items c.pages.items refl new (saw c.board)
+        (ap (actor_of c.board.settings c.board.log a) e ∙ log_of c.board.settings c.board.log b c.board is a (λ n. record row { seen = n }))
 
     pub room_refused : (why : ReserveRefusal) → Promises c.board was a (Err why) b now → new ≡ record row { seen = length b.log } → Reserves (state_of c) a (Err why) then
     room_refused (Full limit) told e = (record { can = told.0.1 ∙ told.0.0; is = same_state told.1 told.2 e }, told.0.0)

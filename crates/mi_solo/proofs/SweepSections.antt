@@ -63,7 +63,7 @@ module _ (c : Core) (a : ℕ) (known : a < length c.actors.items) (kept : Kept (
     pub page_swept : (node_in (state_of c) page).low ≤ (view_in (state_of c) a).swept → EndsAfter (node_in (state_of c) page) 0 (view_in (state_of c) a).swept
         → (keys : Interval) → keys ≡ cell_range (grid c.board.settings) w.leaf → (now : Node) → now ≡ sweep_node keys node
         → (end : ℕ) → end ≡ cell_end (grid c.board.settings) w.leaf → (mark : ℕ) → mark ≡ mark_past node.high end → (new : ActorRow) → new ≡ record row { page = page; sweep = swept_row mark end row.sweep }
-        → Does (state_of c) a (sweep page (node_in (state_of c) page)) (record { board = c.board; shards = c.shards.items; pages = set c.pages.items page (Some now); actors = actors_of c.board.log 0 (set c.actors.items a new) })
+        → Does (state_of c) a (sweep page (node_in (state_of c) page)) (record { board = c.board; shards = c.shards.items; pages = set c.pages.items page (Some now); actors = actors_of c.board.settings c.board.log 0 (set c.actors.items a new) })
     page_swept low ends keys range now gone end last mark up new e =
         let n : Node = node_in (state_of c) page in
         let r : Actor = actor_in (state_of c) a in
@@ -76,8 +76,8 @@ module _ (c : Core) (a : ℕ) (known : a < length c.actors.items) (kept : Kept (
         ∙ ap (swept_on (grid c.board.settings) (record { leaf = w.leaf; mark = w.mark })) (sym its) ∙ ap (λ o. sweep_next c.board.settings n (sweep_of o)) (sym is) in
         record {
           can = can_sweep (state_of c) a r page n (in_state c page linked read seen node there) (record { leaf = w.leaf; mark = w.mark }) sweeping low ends;
-          is = comes_to c a known row at c.board c.board refl (λ m k. refl) c.shards.items c.shards.items refl
+          is = comes_to c a known row at c.board c.board refl refl (λ m k. refl) c.shards.items c.shards.items refl
               (set c.pages.items page (Some now)) (set c.pages.items page (Some (sweep_node (cell_range (grid c.board.settings) (sweep_leaf r.sweep)) n))) (ap (λ (x : Node). set c.pages.items page (Some x)) after_it)
               new (λ (x : Actor). record x { page = page; sweep = sweep_next c.board.settings n x.sweep })
-              (ap (actor_of c.board.log a) e ∙ ap (λ o. record (actor_of c.board.log a row) { page = page; sweep = o }) row_sweep);
+              (ap (actor_of c.board.settings c.board.log a) e ∙ ap (λ o. record (actor_of c.board.settings c.board.log a row) { page = page; sweep = o }) row_sweep);
         }

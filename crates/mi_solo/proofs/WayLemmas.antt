@@ -25,8 +25,8 @@ module _ (c : Core) (page : ℕ) (linked : IsTrue (is_linked (state_of c) page))
 
   -- the actor has noted the page, and that is all
   pub only_noted : (a : ℕ) (known : a < length c.actors.items) (row : ActorRow) (at : row ≡ get_or c.actors.items a row) (new : ActorRow) → new ≡ record row { page = page }
-      → Does (state_of c) a (visit page) (record { board = c.board; shards = c.shards.items; pages = c.pages.items; actors = actors_of c.board.log 0 (set c.actors.items a new) })
+      → Does (state_of c) a (visit page) (record { board = c.board; shards = c.shards.items; pages = c.pages.items; actors = actors_of c.board.settings c.board.log 0 (set c.actors.items a new) })
   only_noted a known row at new e = record {
     can = (node, page_here c page linked read seen node is);
-    is = row_alone c a known row at new (noted page) (ap (actor_of c.board.log a) e);
+    is = row_alone c a known row at new (noted page) (ap (actor_of c.board.settings c.board.log a) e);
   }

@@ -38,7 +38,7 @@ retired_fits c k p e =
 
 module _ (c : Core) (a : ℕ) (known : a < length c.actors.items) (row : ActorRow) (at : row ≡ get_or c.actors.items a row) (b : BoardState) (new : ActorRow) where
   abbrev then : State
-  then = record { board = b; shards = c.shards.items; pages = c.pages.items; actors = actors_of b.log 0 (set c.actors.items a new) }
+  then = record { board = b; shards = c.shards.items; pages = c.pages.items; actors = actors_of b.settings b.log 0 (set c.actors.items a new) }
 
   module _ (free : (actor_in (state_of c) a).claim ≡ None) (idle : (actor_in (state_of c) a).sweep ≡ None) (r : Work) (told : board.GivesWork c.board a r b) (before : Look) (was : before ≡ look_of c.board) where
     both_free : IsFree (actor_in (state_of c) a)
@@ -52,11 +52,11 @@ module _ (c : Core) (a : ℕ) (known : a < length c.actors.items) (row : ActorRo
         let from : mark ≡ (cell_range (grid c.board.settings) p).from = first ∙ ap (λ (z : BoardState). cell_start (grid z.settings) p) its.1 in
         subst (λ x. GivesWork (state_of c) a x then) (sym is) (record {
           can = (both_free, its.0);
-          is = comes_to c a known row at b to its.1 (λ m n. refl) c.shards.items c.shards.items refl c.pages.items c.pages.items refl new
+          is = comes_to c a known row at b to its.1 refl (λ m n. refl) c.shards.items c.shards.items refl c.pages.items c.pages.items refl new
               (λ (x : Actor). record (looked c.board x) { sweep = Some (record { leaf = p; mark = (cell_range (grid c.board.settings) p).from }) })
-              (ap (actor_of c.board.log a) e ∙ log_of c.board.log b to its.1 a (λ n. record row { seen = n; floor = before.floor; sweep = Some (record { leaf = p; mark = mark }) })
-              ∙ ap (λ (l : Look). actor_of c.board.log a (record row { seen = length c.board.log; floor = l.floor; sweep = Some (record { leaf = p; mark = mark }) })) was
-              ∙ ap (λ m. record (looked c.board (actor_of c.board.log a row)) { sweep = Some (record { leaf = p; mark = m }) }) from);
+              (ap (actor_of c.board.settings c.board.log a) e ∙ log_of c.board.settings c.board.log b to its.1 a (λ n. record row { seen = n; floor = before.floor; sweep = Some (record { leaf = p; mark = mark }) })
+              ∙ ap (λ (l : Look). actor_of c.board.settings c.board.log a (record row { seen = length c.board.log; floor = l.floor; sweep = Some (record { leaf = p; mark = mark }) })) was
+              ∙ ap (λ m. record (looked c.board (actor_of c.board.settings c.board.log a row)) { sweep = Some (record { leaf = p; mark = m }) }) from);
         })
 
     pub split_given : (leaf : Leaf) → r ≡ work.Split leaf → new ≡ record row { seen = length b.log; floor = before.floor; claim = Some leaf.prefix } → GivesWork (state_of c) a r then
@@ -66,10 +66,10 @@ module _ (c : Core) (a : ℕ) (known : a < length c.actors.items) (row : ActorRo
         subst (λ x. GivesWork (state_of c) a x then) (sym is) (
           record {
             can = (both_free, its.0, leaf, its.1.0, refl);
-            is = comes_to c a known row at b to its.1.1 (λ m n. refl) c.shards.items c.shards.items refl c.pages.items c.pages.items refl new
+            is = comes_to c a known row at b to its.1.1 refl (λ m n. refl) c.shards.items c.shards.items refl c.pages.items c.pages.items refl new
                 (λ (x : Actor). record (looked c.board x) { claim = Some leaf.prefix })
-                (ap (actor_of c.board.log a) e ∙ log_of c.board.log b to its.1.1 a (λ n. record row { seen = n; floor = before.floor; claim = Some leaf.prefix })
-                ∙ ap (λ (l : Look). actor_of c.board.log a (record row { seen = length c.board.log; floor = l.floor; claim = Some leaf.prefix })) was);
+                (ap (actor_of c.board.settings c.board.log a) e ∙ log_of c.board.settings c.board.log b to its.1.1 a (λ n. record row { seen = n; floor = before.floor; claim = Some leaf.prefix })
+                ∙ ap (λ (l : Look). actor_of c.board.settings c.board.log a (record row { seen = length c.board.log; floor = l.floor; claim = Some leaf.prefix })) was);
           },
           its.1.0,
         )
@@ -79,9 +79,9 @@ module _ (c : Core) (a : ℕ) (known : a < length c.actors.items) (row : ActorRo
         let its = subst (λ x. board.GivesWork c.board a x b) is told in
         subst (λ x. GivesWork (state_of c) a x then) (sym is) (record {
           can = (both_free, its.0, its.1.0);
-          is = comes_to c a known row at b c.board its.1.1 (λ m n. refl) c.shards.items c.shards.items refl c.pages.items c.pages.items refl new (looked c.board)
-              (ap (actor_of c.board.log a) e ∙ log_of c.board.log b c.board its.1.1 a (λ n. record row { seen = n; floor = before.floor })
-              ∙ ap (λ (l : Look). actor_of c.board.log a (record row { seen = length c.board.log; floor = l.floor })) was);
+          is = comes_to c a known row at b c.board its.1.1 refl (λ m n. refl) c.shards.items c.shards.items refl c.pages.items c.pages.items refl new (looked c.board)
+              (ap (actor_of c.board.settings c.board.log a) e ∙ log_of c.board.settings c.board.log b c.board its.1.1 a (λ n. record row { seen = n; floor = before.floor })
+              ∙ ap (λ (l : Look). actor_of c.board.settings c.board.log a (record row { seen = length c.board.log; floor = l.floor })) was);
         })
 
   -- the split is given up
@@ -91,6 +91,6 @@ module _ (c : Core) (a : ℕ) (known : a < length c.actors.items) (row : ActorRo
       let to = given_up pages a c.board in
       record {
         can = may_give_up (state_of c) k a (actor_in (state_of c) a) (there c a known) pages claimed none told;
-        is = comes_to c a known row at b to is (λ m n. refl) c.shards.items c.shards.items refl c.pages.items c.pages.items refl new (λ (x : Actor). record (saw c.board x) { claim = None; split = None })
-            (ap (actor_of c.board.log a) e ∙ log_of c.board.log b to is a (λ n. record row { seen = n; claim = None; split = None }));
+        is = comes_to c a known row at b to is refl (λ m n. refl) c.shards.items c.shards.items refl c.pages.items c.pages.items refl new (λ (x : Actor). record (saw c.board x) { claim = None; split = None })
+            (ap (actor_of c.board.settings c.board.log a) e ∙ log_of c.board.settings c.board.log b to is a (λ n. record row { seen = n; claim = None; split = None }));
       }

@@ -5,7 +5,7 @@ use Rattle.mi_core.specs.Refusals.Refusal.{full}
 use Rattle.mi_core.specs.State.{State}
 use Rattle.mi_entries.specs.Records.{home}
 use Rattle.mi_world.specs.declared.answers.Commit.{Commit}
-use Rattle.mi_world.specs.declared.answers.Commit.TheVariants.{Down, Right, Full, Crowded, PageFull, Done}
+use Rattle.mi_world.specs.declared.answers.Commit.TheVariants.{Down, Right, Full, Done}
 use Rattle.mi_world.specs.Pages.{delete_key, next_number}
 use Rattle.mi_solo.specs.Sections.{rows_at}
 use Rattle.mi_solo.specs.Seeking.{EndsAfter, PointsDown, PointsRight}

@@ -4,8 +4,7 @@ use Rattle.std.proofs.Common.{inl, refl}
 use Rattle.mi_core.specs.Events.{Leads}
 use Rattle.mi_core.specs.State.{State}
 use Rattle.mi_page.specs.Nodes.{Node}
-use Rattle.mi_solo.specs.States.{actor_in}
-use Rattle.mi_solo.specs.Viewing.{shown_to}
+use Rattle.mi_solo.specs.States.{actor_in, view_in}
 use Rattle.mi_world.specs.View.{View}
 
 -- a state, and the actor whose turn it is
@@ -15,7 +14,7 @@ pub record SoloState : Type 0 where
 
 -- the view of the actor whose turn it is
 abbrev pub view_of : SoloState → View
-view_of t = shown_to t.state t.turn (actor_in t.state t.turn)
+view_of t = view_in t.state t.turn
 
 -- the actor was made, and hasn't ended
 pub record MayTurn (s : State) (a : ℕ) : Type 0 where

@@ -1,6 +1,7 @@
 -- The state that a core stands for, and what one section of an actor makes of it.
-use Rattle.std.specs.Prelude.{◌≡◌, ◌<◌, ℕ, ◌+◌, List, [], ◌∷◌, Bool, false, is_some, length, Option, Some, None, slice_index_or}
+use Rattle.std.specs.Prelude.{◌≡◌, ◌<◌, ℕ, ◌+◌, ◌==◌, ◌&&◌, List, [], ◌∷◌, Bool, cond, false, is_some, length, Option, Some, None, slice_index_or}
 use Rattle.std.specs.Arc.{arc_value}
+use Rattle.mi_base.specs.Configuration.{Configuration}
 use Rattle.mi_base.specs.declared.records.LogEvent.{LogEvent}
 use Rattle.mi_core.specs.Actors.{made_by}
 use Rattle.mi_core.specs.Events.{Can, Event, after, first_actor}
@@ -8,6 +9,7 @@ use Rattle.mi_core.specs.Pages.{node_or_fresh}
 use Rattle.mi_core.specs.State.{State, node_at}
 use Rattle.mi_page.specs.Nodes.{Node}
 use Rattle.mi_solo.specs.Viewing.{shown_to}
+use Rattle.mi_tree.specs.Catalog.{CatalogState}
 use Rattle.mi_world.specs.View.{View}
 use Rattle.mi_entries.specs.Actors.{Actor, Pin, SplitWork, SweepWork}
 use Rattle.mi_solo.specs.declared.cores.Core.{Core}
@@ -16,10 +18,15 @@ use Rattle.mi_solo.specs.declared.rows.PinRow.{PinRow}
 use Rattle.mi_solo.specs.declared.rows.SplitRow.{SplitRow}
 use Rattle.mi_solo.specs.declared.rows.SweepRow.{SweepRow}
 
--- what the rows stand for
-abbrev pub pin_of : Option PinRow → Option Pin
-pin_of None = None
-pin_of (Some p) = Some (record { at = p.at; cells = (arc_value p.cells).leaves })
+-- the catalog has the settings' pivots and levels
+abbrev pub is_catalog_of : Configuration → CatalogState → Bool
+is_catalog_of settings k = (k.pivots == length settings.pivots) && (k.levels == settings.levels)
+
+-- What the rows stand for. A pin keeps the leaves of its catalog alone, so only a row whose catalog has the settings' pivots and levels stands
+-- for one: who has a pin has the whole catalog with it.
+abbrev pub pin_of : Configuration → Option PinRow → Option Pin
+pin_of settings None = None
+pin_of settings (Some p) = cond (is_catalog_of settings (arc_value p.cells)) (Some (record { at = p.at; cells = (arc_value p.cells).leaves })) None
 
 abbrev pub split_of : Option SplitRow → Option SplitWork
 split_of None = None
@@ -30,8 +37,8 @@ sweep_of None = None
 sweep_of (Some w) = Some (record { leaf = w.leaf; mark = w.mark })
 
 -- the record of the actor of a number: its own updates are those that the log has of it
-abbrev pub actor_of : List LogEvent → ℕ → ActorRow → Actor
-actor_of log a r = record {
+abbrev pub actor_of : Configuration → List LogEvent → ℕ → ActorRow → Actor
+actor_of settings log a r = record {
   seen = r.seen;
   own = made_by a log;
   floor = r.floor;
@@ -40,7 +47,7 @@ actor_of log a r = record {
   shard = r.shard;
   claim = r.claim;
   sweep = sweep_of r.sweep;
-  pin = pin_of r.pin;
+  pin = pin_of settings r.pin;
   split = split_of r.split;
   fresh = r.hand.fresh;
   owed = r.hand.owed;
@@ -54,12 +61,12 @@ actor_of log a r = record {
 }
 
 -- the records of actors numbered from n on
-abbrev pub actors_of : List LogEvent → ℕ → List ActorRow → List Actor
-actors_of log n [] = []
-actors_of log n (r ∷ rows) = actor_of log n r ∷ actors_of log (n + 1) rows
+abbrev pub actors_of : Configuration → List LogEvent → ℕ → List ActorRow → List Actor
+actors_of settings log n [] = []
+actors_of settings log n (r ∷ rows) = actor_of settings log n r ∷ actors_of settings log (n + 1) rows
 
 abbrev pub state_of : Core → State
-state_of c = record { board = c.board; shards = c.shards.items; pages = c.pages.items; actors = actors_of c.board.log 0 c.actors.items }
+state_of c = record { board = c.board; shards = c.shards.items; pages = c.pages.items; actors = actors_of c.board.settings c.board.log 0 c.actors.items }
 
 -- the record of an actor
 abbrev pub actor_in : State → ℕ → Actor

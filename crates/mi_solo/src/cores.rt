@@ -1,6 +1,6 @@
 //! The parts that all actors share, and what is known of each actor.
 ghost use Rattle.std.specs.Prelude.{◌≡◌, ◌≤◌, ◌-◌, ◌∷◌, [], IfOk, None, Some, replicate};
-ghost use Rattle.mi_base.specs.Configuration.{metric_space};
+ghost use Rattle.mi_base.specs.Configuration.{Configuration, metric_space};
 ghost use Rattle.mi_base.specs.Space.{IsMetric};
 ghost use Rattle.mi_core.specs.Events.{first_actor, opened};
 ghost use Rattle.mi_core.specs.Kept.{Kept};
@@ -70,7 +70,7 @@ fn first_pages(alloc: Global, count: usize) -> Result<Vec<Option<Page>>, NoMemor
 
 /// So many actors at the opening.
 fn first_rows(alloc: Global, count: u32) -> Result<Vec<ActorRow>, NoMemory>
-    ensures { IfOk result (λ rows. actors_of [] 0 rows.items ≡ replicate count first_actor) }
+    ensures { IfOk result (λ rows. (settings : Configuration) → actors_of settings [] 0 rows.items ≡ replicate count first_actor) }
 {
     let mut rows = Vec::new(alloc);
     for _ in 0..count {

@@ -4,6 +4,8 @@
 mod board_sections;
 mod boards;
 mod cell_keys;
+mod copy_sections;
+mod copying;
 mod cores;
 mod delete_section;
 mod gathering;

@@ -1,5 +1,6 @@
 //! What the core keeps of each actor.
 ghost use Rattle.std.specs.Prelude.{◌≡◌, ℕ, [], None, Some, true, false, length};
+ghost use Rattle.mi_base.specs.Configuration.{Configuration};
 ghost use Rattle.mi_board.specs.Boards.{floor_of};
 ghost use Rattle.mi_core.specs.Events.{first_actor};
 ghost use Rattle.mi_solo.specs.States.{actor_of};
@@ -61,7 +62,7 @@ pub struct ActorRow {
 impl ActorRow {
     /// An actor at the opening, which has seen nothing and holds nothing.
     pub fn first(alloc: Global) -> ActorRow
-        ensures { (a : ℕ) → actor_of [] a result ≡ first_actor }
+        ensures { (settings : Configuration) (a : ℕ) → actor_of settings [] a result ≡ first_actor }
     {
         ActorRow {
             seen: 0,

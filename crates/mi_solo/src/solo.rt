@@ -1,5 +1,5 @@
 //! A core in the turn of one of its actors, for which it is a World.
-ghost use Rattle.std.specs.Prelude.{◌≡◌, ◌<◌, ◌≤◌, ◌-◌, ◌^◌, IfOk, length};
+ghost use Rattle.std.specs.Prelude.{◌≡◌, None, ◌<◌, ◌≤◌, ◌-◌, ◌^◌, IfOk, length};
 ghost use Rattle.mi_base.specs.Configuration.{metric_space};
 ghost use Rattle.mi_base.specs.Space.{IsMetric};
 ghost use Rattle.mi_board.specs.Boards.{cells_in};
@@ -7,19 +7,25 @@ ghost use Rattle.mi_core.specs.Counted.{total};
 ghost use Rattle.mi_core.specs.Events.{opened};
 ghost use Rattle.mi_core.specs.Events.Event.{see};
 ghost use Rattle.mi_core.specs.Kept.{Kept};
-ghost use Rattle.mi_solo.specs.States.{Does, IsGoing, state_of};
+ghost use Rattle.mi_solo.specs.Sections.{Pins};
+ghost use Rattle.mi_solo.specs.States.{Does, IsGoing, actor_in, state_of};
 ghost use Rattle.mi_solo.specs.Solos.{MayTurn, entries_on};
 
 use crate::cores::Core;
-use mi_base::{LogEvent, NoMemory, Settings};
+use mi_base::{Dists, Id, LogEvent, NoMemory, Perm, Position, Settings, Steps, Vector};
+use mi_key::{Interval, Key, Sieve};
 use mi_page::Page;
-use mi_tree::Catalog;
+use mi_tree::{AllotRefusal, Catalog, LeafClaim, Look, ReserveRefusal, Work};
+use mi_world::{Commit, Parted, Put, ShardClaim, Visit, World};
 use std::alloc::Global;
-use std::marker::Model;
+use std::marker::{Brand, Model};
+use std::sync::ledger::{Blank, Ledger};
 
-/// The core that all actors share, and the actor whose turn it is.
+/// The core that all actors share, and the actor whose turn it is. What is gathered is kept in the
+/// memory that was given at the opening.
 #[derive(Drop)]
 pub struct Solo {
+    alloc: Global,
     core: Core,
     turn: u32,
 }
@@ -44,7 +50,11 @@ impl Solo {
         ensures { IfOk result (λ s. s ≡ record { state = opened settings.now actors (settings.now.pages - 1); turn = 0 }) }
     {
         let core = Core::open(alloc, settings, actors)?;
-        Ok(Solo { core, turn: 0 })
+        Ok(Solo {
+            alloc,
+            core,
+            turn: 0,
+        })
     }
 
     /// It is this actor's turn, which has seen the whole log then.
@@ -87,6 +97,167 @@ impl Solo {
     {
         self.core.board.allotted()
     }
+}
+
+impl World for Solo {
+    ghost use Rattle.mi_solo.specs.Solos.{Section, section_none, view_of};
+
+    ghost view = { view_of };
+
+    ghost section = { Section };
+
+    fn actor(&self) -> u32 {
+        self.turn
+    }
+
+    fn seen(&self) -> Position {
+        self.core.board.look().at
+    }
+
+    fn claim_shard(&mut self, id: Id) -> ShardClaim {
+        self.core.claim_shard(self.turn, id)
+    }
+
+    fn release_shard(&mut self) {
+        self.core.release_shard(self.turn);
+    }
+
+    fn look(&mut self) -> Look {
+        self.core.look(self.turn)
+    }
+
+    fn reserve(&mut self) -> Result<Look, ReserveRefusal> {
+        self.core.reserve(self.turn)
+    }
+
+    fn claim_leaf(&mut self, perm: &Perm) -> LeafClaim {
+        // What its numbers are is known of a permutation that is read.
+        perm.as_slice();
+        self.core.claim_leaf(self.turn, perm)
+    }
+
+    fn release_leaf(&mut self) {
+        self.core.release_leaf(self.turn);
+    }
+
+    fn pin(&mut self, alloc: Global) -> Result<Look, NoMemory> {
+        pin_uncounted::<Brand>(&mut self.core, alloc, self.turn, Blank::new(1))
+    }
+
+    fn pinned(&self) -> &Catalog {
+        let Some(pin) = &self.core.actors[self.turn as usize].pin else {
+            unreachable!();
+        };
+        &pin.cells
+    }
+
+    fn unpin(&mut self) {
+        self.core.unpin(self.turn);
+    }
+
+    fn visit<S: Sieve>(&mut self, page: u32, range: &Interval, sieve: &mut S) -> Visit {
+        self.core.visit(self.turn, page, range, sieve)
+    }
+
+    fn commit_insert(
+        &mut self,
+        page: u32,
+        op: u32,
+        id: Id,
+        vector: &Vector,
+        dists: &Dists,
+    ) -> Commit {
+        self.core
+            .commit_insert(self.turn, page, op, id, vector, dists)
+    }
+
+    fn commit_delete(&mut self, page: u32, op: u32, id: Id) -> Commit {
+        self.core.commit_delete(self.turn, page, op, id)
+    }
+
+    fn fresh(&self) -> bool {
+        self.core.fresh(self.turn)
+    }
+
+    fn lacked(&self) -> bool {
+        self.core.lacked(self.turn)
+    }
+
+    fn allot(&mut self, alloc: Global) -> Result<(), AllotRefusal> {
+        self.core.allot(alloc, self.turn)
+    }
+
+    fn split_page(&mut self, page: u32) -> Parted {
+        self.core.split_page(self.turn, page)
+    }
+
+    fn post(&mut self, page: u32, level: u32, key: Key, child: u32) -> Put {
+        self.core.post(self.turn, page, level, key, child)
+    }
+
+    fn grow(&mut self, level: u32, key: Key, child: u32) -> bool {
+        self.core.grow(self.turn, level, key, child)
+    }
+
+    fn gather(&mut self, page: u32) -> Result<Visit, NoMemory> {
+        self.core.gather(self.alloc, self.turn, page)
+    }
+
+    fn gathered(&self) -> usize {
+        self.core.gathered(self.turn)
+    }
+
+    fn copied(&self) -> usize {
+        self.core.copied(self.turn)
+    }
+
+    fn copy_in(&mut self, page: u32) -> Put {
+        self.core.copy_in(self.turn, page)
+    }
+
+    fn uncopy(&mut self, page: u32) -> Put {
+        self.core.uncopy(self.turn, page)
+    }
+
+    fn publish(&mut self, alloc: Global) -> Result<Position, NoMemory> {
+        self.core.publish(alloc, self.turn)
+    }
+
+    fn give_up(&mut self, pages: bool) {
+        self.core.give_up(self.turn, pages);
+    }
+
+    fn next_work(&mut self) -> Work {
+        self.core.next_work(self.turn)
+    }
+
+    fn sweep(&mut self, page: u32) -> Visit {
+        self.core.sweep(self.turn, page)
+    }
+
+    fn trim(&mut self, page: u32) -> Visit {
+        self.core.trim(self.turn, page)
+    }
+
+    ghost none = { section_none };
+}
+
+/// Pins the whole log for the actor, with a counter that nobody reads.
+fn pin_uncounted<L: Ledger>(
+    core: &mut Core,
+    alloc: Global,
+    actor: u32,
+    blank: Blank,
+) -> Result<Look, NoMemory>
+    requires name { blank.name ≡ L.name }
+    requires parts { blank.parts ≡ L.parts }
+    requires some { 0 < blank.parts }
+    requires going { IsGoing core.old actor }
+    requires kept { Kept (state_of core.old) }
+    requires free { (actor_in (state_of core.old) actor).pin ≡ None }
+    ensures { Pins (state_of core.old) actor result (state_of core.new) }
+{
+    core.pin(alloc, actor, &mut Steps::<L>::new(blank))
 }
 
 impl Core {

@@ -1,5 +1,6 @@
 //! What the sections of splits and sweeps change in an actor's row.
-ghost use Rattle.std.specs.Prelude.{◌≡◌, Some, None, length};
+ghost use Rattle.std.specs.Prelude.{◌≡◌, Some, None, cond, length, true};
+ghost use Rattle.mi_core.specs.Events.{copied_to};
 ghost use Rattle.mi_solo.specs.States.{split_of};
 ghost use Rattle.mi_solo.specs.WorkRows.{opened_split, swept_row};
 
@@ -68,6 +69,29 @@ impl ActorRow {
                 gathered: Vec::new(alloc),
                 copied: 0,
             });
+        }
+    }
+
+    /// So much of what it gathered is copied. It has made a section of the page.
+    pub fn copy_up_to(&mut self, page: u32, copied: usize)
+        ensures rest { self.new ≡ record self.old { page = page; split = self.new.split } }
+        ensures split { split_of self.new.split ≡ copied_to copied (split_of self.old.split) }
+    {
+        self.note(page);
+        if let Some(work) = &mut self.split {
+            work.copied = copied;
+        }
+    }
+
+    /// It took its last copy back, and so much is copied still: too early, unless it was told that all pages are allotted.
+    pub fn take_back(&mut self, page: u32, copied: usize, told: bool)
+        ensures rest { self.new ≡ record self.old { page = page; split = self.new.split; undone = true; early = cond told self.old.early true } }
+        ensures split { split_of self.new.split ≡ copied_to copied (split_of self.old.split) }
+    {
+        self.copy_up_to(page, copied);
+        self.undone = true;
+        if !told {
+            self.early = true;
         }
     }
 }

@@ -1,4 +1,4 @@
-use Rattle.std.proofs.Common.{◌≡◌, ◌∙◌}
+use Rattle.std.proofs.Common.{◌∙◌}
 use Rattle.mi_solo.proofs.BoardSections.{leaf_held, leaf_taken}
 use Rattle.mi_solo.proofs.CoreLemmas.{on_board, suits}
 use Rattle.mi_solo.proofs.cores.Core.claim_leaf.Goals as goal

@@ -1,5 +1,4 @@
-use Rattle.std.proofs.Common.{◌≡◌, ◌<◌, ◌%◌, ◌∙◌, ap, arith, false, length, None, Option, Some, is_some, refl, sym}
-use Rattle.std.proofs.lemmas.Bool.{false≢true}
+use Rattle.std.proofs.Common.{◌≡◌, ◌<◌, ◌%◌, ◌∙◌, ap, arith, length, None, sym}
 use Rattle.mi_entries.specs.Records.{Shard, home}
 use Rattle.mi_solo.proofs.CoreLemmas.{none_of, same_at}
 use Rattle.mi_solo.proofs.ShardSections.{shard_claimed, shard_missed}

@@ -1,4 +1,4 @@
-use Rattle.std.proofs.Common.{◌≡◌, ◌∙◌, ◌<◌, ◌≤◌, ◌%◌, ◌^◌, ap, arith, refl, subst, sym}
+use Rattle.std.proofs.Common.{◌≡◌, ◌∙◌, ◌<◌, ◌≤◌, ◌%◌, ◌^◌, ap, arith, subst, sym}
 use Rattle.std.proofs.lemmas.Option.{same_Some}
 use Rattle.mi_base.specs.Permutations.{key_distance}
 use Rattle.mi_core.specs.Effects.{noted}
@@ -98,7 +98,7 @@ returns-in-Down c =
     let here = page_here s c.args.page c.requires.linked c.index-2.result.now c.index-2.ensures c.in-Some-index.node c.in-Some-index.is in (
       record {
         can = (c.in-Some-index.node, here);
-        is = row_alone s a c.requires.going.known c.index_mut.result.now c.index_mut.ensures.value c.note.new.self (noted c.args.page) (ap (actor_of s.board.log a) c.note.ensures);
+        is = row_alone s a c.requires.going.known c.index_mut.result.now c.index_mut.ensures.value c.note.new.self (noted c.args.page) (ap (actor_of s.board.settings s.board.log a) c.note.ensures);
       },
       subst (λ n. PointsDown n 0 (delete_key v c.args.id) c.in-Down.child) (sym is) (subst (λ k. PointsDown c.in-Some-index.node 0 k c.in-Down.child) key c.in-Down.ensures),
     )
@@ -114,7 +114,7 @@ returns-in-Right c =
     let here = page_here s c.args.page c.requires.linked c.index-2.result.now c.index-2.ensures c.in-Some-index.node c.in-Some-index.is in (
       record {
         can = (c.in-Some-index.node, here);
-        is = row_alone s a c.requires.going.known c.index_mut-in-Right.result.now c.index_mut-in-Right.ensures.value c.note-in-Right.new.self (noted c.args.page) (ap (actor_of s.board.log a) c.note-in-Right.ensures);
+        is = row_alone s a c.requires.going.known c.index_mut-in-Right.result.now c.index_mut-in-Right.ensures.value c.note-in-Right.new.self (noted c.args.page) (ap (actor_of s.board.settings s.board.log a) c.note-in-Right.ensures);
       },
       subst (λ n. PointsRight n 0 (delete_key v c.args.id) c.in-Right.next) (sym is) (subst (λ k. PointsRight c.in-Some-index.node 0 k c.in-Right.next) key c.in-Right.ensures),
     )

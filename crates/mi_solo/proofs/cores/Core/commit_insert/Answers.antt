@@ -1,4 +1,4 @@
-use Rattle.std.proofs.Common.{◌≡◌, ◌∙◌, ◌<◌, ◌≤◌, ◌+◌, ◌==◌, ap, arith, cond, length, refl, subst, sym}
+use Rattle.std.proofs.Common.{◌≡◌, ◌∙◌, ◌+◌, ◌==◌, ap, arith, cond, length, subst, sym}
 use Rattle.mi_base.specs.History.{updates_of}
 use Rattle.mi_core.specs.Effects.{noted, saw}
 use Rattle.mi_entries.specs.Actors.{Actor}
@@ -65,7 +65,7 @@ returns-in-Down c =
     let here = page_here s c.args.page c.requires.seeks.named c.index.result.now c.index.ensures c.in-Some.node c.in-Some.is in (
       record {
         can = (c.in-Some.node, here);
-        is = row_alone s a c.requires.going.known c.index_mut.result.now c.index_mut.ensures.value c.note.new.self (noted c.args.page) (ap (actor_of s.board.log a) c.note.ensures);
+        is = row_alone s a c.requires.going.known c.index_mut.result.now c.index_mut.ensures.value c.note.new.self (noted c.args.page) (ap (actor_of s.board.settings s.board.log a) c.note.ensures);
       },
       subst (λ n. PointsDown n 0 (insert_key v c.args.dists.now.items c.args.id 0) c.in-Down.child) (sym is) (subst (λ k. PointsDown c.in-Some.node 0 k c.in-Down.child) key c.in-Down.ensures),
     )
@@ -82,7 +82,7 @@ returns-in-Right c =
     let here = page_here s c.args.page c.requires.seeks.named c.index.result.now c.index.ensures c.in-Some.node c.in-Some.is in (
       record {
         can = (c.in-Some.node, here);
-        is = row_alone s a c.requires.going.known c.index_mut-in-Right.result.now c.index_mut-in-Right.ensures.value c.meet.new.self (λ (r : Actor). noted c.args.page (saw s.board r)) (ap (actor_of s.board.log a) c.meet.ensures);
+        is = row_alone s a c.requires.going.known c.index_mut-in-Right.result.now c.index_mut-in-Right.ensures.value c.meet.new.self (λ (r : Actor). noted c.args.page (saw s.board r)) (ap (actor_of s.board.settings s.board.log a) c.meet.ensures);
       },
       subst (λ n. PointsRight n 0 (insert_key v c.args.dists.now.items c.args.id (next_number v)) c.in-Right.next) (sym is) (subst (λ k. PointsRight c.in-Some.node 0 k c.in-Right.next) key c.in-Right.ensures),
     )

@@ -1,4 +1,4 @@
-use Rattle.std.proofs.Common.{◌≡◌, ◌∙◌, ◌<◌, ◌≤◌, ◌+◌, ◌%◌, ℕ, inl, inr, ap, arith, get_or, length, refl, set, subst, sym, Some}
+use Rattle.std.proofs.Common.{◌≡◌, ◌∙◌, ◌%◌, inl, inr, ap, arith, get_or, length, set, subst, sym, Some}
 use Rattle.std.proofs.lemmas.Option.{same_Some}
 use Rattle.mi_base.specs.Configuration.{Configuration}
 use Rattle.mi_base.specs.History.{updates_of}
@@ -31,7 +31,7 @@ returns-then-next-limit c =
     (elim (room_or_full (state_of s) c.requires.kept.sound a (actor_in (state_of s) a) (there s a c.requires.going.known)) as (λ _. length (updates_of s.board.log) ≡ s.board.settings.updates) [ inl h ↦ absurd (omega arith) | inr h ↦ h ]) in (
       record {
         can = (linked_at _ c.requires.linked, many);
-        is = row_alone s a c.requires.going.known c.index_mut-me.result.now c.index_mut-me.ensures.value c.meet.new.self (λ (r : Actor). noted c.args.page (saw s.board r)) (ap (actor_of s.board.log a) c.meet.ensures);
+        is = row_alone s a c.requires.going.known c.index_mut-me.result.now c.index_mut-me.ensures.value c.meet.new.self (λ (r : Actor). noted c.args.page (saw s.board r)) (ap (actor_of s.board.settings s.board.log a) c.meet.ensures);
       },
       limit,
     )
@@ -76,6 +76,6 @@ returns c =
     c.args.op c.commit_delete.new.self told.1.1.1 c.index_mut-2.result.now c.remove.new.self (subst (λ m. c.index_mut-2.result.now ≡ get_or s.shards.items m c.index_mut-2.result.now) n c.index_mut-2.ensures.value) c.remove.ensures
     c.in-Ok.number told.1.1.0 c.mark_death.new.self c.mark_death.ensures c.commit.new.self c.commit.ensures in (
       subst (λ m. Does (state_of s) a (delete c.args.op c.args.id c.args.page (node_in (state_of s) c.args.page) (rows_at (state_of s) (home c.args.id)) (delete_key (view_in (state_of s) a) c.args.id))
-          (record { board = c.commit_delete.new.self; shards = set s.shards.items m c.remove.new.self; pages = set s.pages.items c.args.page (Some c.mark_death.new.self); actors = actors_of c.commit_delete.new.self.log 0 (set s.actors.items a c.commit.new.self) })) (sym n) does,
+          (record { board = c.commit_delete.new.self; shards = set s.shards.items m c.remove.new.self; pages = set s.pages.items c.args.page (Some c.mark_death.new.self); actors = actors_of c.commit_delete.new.self.settings c.commit_delete.new.self.log 0 (set s.actors.items a c.commit.new.self) })) (sym n) does,
       told.1.1.0,
     )

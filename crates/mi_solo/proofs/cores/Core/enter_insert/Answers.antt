@@ -1,23 +1,22 @@
-use Rattle.std.proofs.Common.{◌≡◌, ◌≢◌, ◌∙◌, ◌<◌, ◌≤◌, ◌+◌, ◌%◌, ◌^◌, ℕ, ℤ, Bool, Err, None, Option, Some, List, [], ◌∷◌, ap, arith, false, inl, inr, length, refl, set, subst, sym, true, get_or}
+use Rattle.std.proofs.Common.{◌≡◌, ◌∙◌, ◌<◌, ◌+◌, ◌%◌, ◌^◌, None, Some, ap, arith, inl, inr, length, refl, set, subst, sym, get_or}
 use Rattle.mi_base.specs.Configuration.{Configuration}
-use Rattle.mi_base.specs.History.{end_of, updates_of}
-use Rattle.mi_base.specs.Permutations.{distance_at_first, key_distance, permutation_of}
+use Rattle.mi_base.specs.History.{updates_of}
+use Rattle.mi_base.specs.Permutations.{distance_at_first, permutation_of}
 use Rattle.mi_base.specs.declared.records.Update.TheVariants.{Insert}
-use Rattle.mi_board.specs.Boards.{Commits, HasRoom, MayCommit, MayInsert, crowded_at}
+use Rattle.mi_board.specs.Boards.{HasRoom, MayCommit, MayInsert, crowded_at}
 use Rattle.mi_core.proofs.RefusalLemmas.{room_or_full}
 use Rattle.mi_core.specs.Effects.{noted, saw, trim_leaf, trim_node}
 use Rattle.mi_base.specs.Sorting.{put}
 use Rattle.mi_core.specs.Events.Event.{insert}
 use Rattle.mi_solo.specs.Sections.{rows_at}
 use Rattle.mi_entries.specs.Actors.{Actor}
-use Rattle.mi_entries.specs.Entries.{grid}
 use Rattle.mi_entries.specs.Records.{Shard, held_by, home, no_shard, with_record}
 use Rattle.mi_key.specs.declared.entries.Entry.{Entry}
 use Rattle.mi_page.specs.Entries.{entry_cmp}
 use Rattle.mi_page.specs.Nodes.{Node, item_count}
 use Rattle.mi_tree.specs.declared.answers.Look.{Look}
 use Rattle.mi_solo.specs.States.{Does, actor_in, actor_of, actors_of, node_in, state_of}
-use Rattle.mi_solo.proofs.CanLemmas.{can_insert, insert_absent, insert_board, insert_commits}
+use Rattle.mi_solo.proofs.CanLemmas.{insert_board, insert_commits}
 use Rattle.mi_solo.proofs.CoreLemmas.{comes_to, read_is, row_alone, row_is, suits, there}
 use Rattle.mi_solo.proofs.InsertSection.{commits_well, crowd_is, is_entered, none_there, trims_leaf}
 use Rattle.mi_solo.proofs.LaterLemmas.{linked_at}
@@ -36,7 +35,7 @@ returns-then-birth-limit c =
     (elim (room_or_full (state_of s) c.requires.kept.sound a (actor_in (state_of s) a) (there s a c.requires.going.known)) as (λ _. length (updates_of s.board.log) ≡ s.board.settings.updates) [ inl h ↦ absurd (omega arith) | inr h ↦ h ]) in (
       record {
         can = (linked_at _ c.requires.linked, many);
-        is = row_alone s a c.requires.going.known c.index_mut-me.result.now c.index_mut-me.ensures.value c.meet.new.self (λ (r : Actor). noted c.args.page (saw s.board r)) (ap (actor_of s.board.log a) c.meet.ensures);
+        is = row_alone s a c.requires.going.known c.index_mut-me.result.now c.index_mut-me.ensures.value c.meet.new.self (λ (r : Actor). noted c.args.page (saw s.board r)) (ap (actor_of s.board.settings s.board.log a) c.meet.ensures);
       },
       limit,
     )
@@ -51,7 +50,7 @@ returns-then-is_crowded c =
     _ (c.settings-2.view_is ∙ c.settings-settings.ensures) c.is_crowded.result c.is_crowded.ensures in (
       record {
         can = (linked_at _ c.requires.linked, crowd ∙ c.if-is_crowded.true);
-        is = row_alone s a c.requires.going.known c.index_mut-me.result.now c.index_mut-me.ensures.value c.meet-then-is_crowded.new.self (λ (r : Actor). noted c.args.page (saw s.board r)) (ap (actor_of s.board.log a) c.meet-then-is_crowded.ensures);
+        is = row_alone s a c.requires.going.known c.index_mut-me.result.now c.index_mut-me.ensures.value c.meet-then-is_crowded.new.self (λ (r : Actor). noted c.args.page (saw s.board r)) (ap (actor_of s.board.settings s.board.log a) c.meet-then-is_crowded.ensures);
       },
       omega arith,
     )
@@ -76,10 +75,10 @@ returns-then-len-eq-CAPACITY c =
     let same = trimmed ∙ full_kept (state_of s) c.requires.kept c.args.page c.in-Some.node here r.floor.updates many in (
       record {
         can = ((c.in-Some.node, here), record { node = c.in-Some.node; there = here; items = many });
-        is = comes_to s a c.requires.going.known c.index_mut-me.result.now c.index_mut-me.ensures.value s.board s.board refl (λ m n. refl) s.shards.items s.shards.items refl
+        is = comes_to s a c.requires.going.known c.index_mut-me.result.now c.index_mut-me.ensures.value s.board s.board refl refl (λ m n. refl) s.shards.items s.shards.items refl
             (set s.pages.items c.args.page (Some c.trim.new.self)) s.pages.items
             (ap (λ n. set s.pages.items c.args.page (Some n)) same ∙ ap (set s.pages.items c.args.page) (sym c.in-Some.is) ∙ set_read s.pages.items c.args.page c.index_mut.result.now c.index_mut.ensures.value)
-            c.meet-then-len-eq-CAPACITY.new.self (λ (r : Actor). noted c.args.page (saw s.board r)) (ap (actor_of s.board.log a) c.meet-then-len-eq-CAPACITY.ensures);
+            c.meet-then-len-eq-CAPACITY.new.self (λ (r : Actor). noted c.args.page (saw s.board r)) (ap (actor_of s.board.settings s.board.log a) c.meet-then-len-eq-CAPACITY.ensures);
       },
       room,
       calm,
@@ -164,7 +163,7 @@ returns c =
     c.insert_spare.new.self put_is c.commit.new.self c.commit.ensures in (
       e,
       subst (λ m. Does (state_of s) a (insert c.args.op c.args.id c.args.page (node_in (state_of s) c.args.page) (rows_at (state_of s) (home c.args.id)) e)
-          (record { board = c.commit_insert.new.self; shards = set s.shards.items m c.insert.new.self; pages = set s.pages.items c.args.page (Some c.insert_spare.new.self); actors = actors_of c.commit_insert.new.self.log 0 (set s.actors.items a c.commit.new.self) })) (sym n) does,
+          (record { board = c.commit_insert.new.self; shards = set s.shards.items m c.insert.new.self; pages = set s.pages.items c.args.page (Some c.insert_spare.new.self); actors = actors_of c.commit_insert.new.self.settings c.commit_insert.new.self.log 0 (set s.actors.items a c.commit.new.self) })) (sym n) does,
       refl,
       refl,
       sym birth,

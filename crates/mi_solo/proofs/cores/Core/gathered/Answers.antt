@@ -1,4 +1,4 @@
-use Rattle.std.proofs.Common.{◌≡◌, ◌∙◌, ap, length, sym}
+use Rattle.std.proofs.Common.{◌∙◌, ap, length, sym}
 use Rattle.mi_entries.specs.Actors.{Actor}
 use Rattle.mi_solo.specs.States.{actor_in, split_of, state_of}
 use Rattle.mi_solo.specs.WorkRows.{work_of}

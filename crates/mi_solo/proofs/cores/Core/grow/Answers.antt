@@ -23,9 +23,9 @@ returns-then-not-grow c =
     let told = subst (λ r. Grows s.board c.args.level c.in-Some.root r c.grow.new.self) c.if-not-grow.true c.grow.ensures in (
       record {
         can = grown_already (state_of s) a (actor_in (state_of s) a) c.args.level c.args.key c.args.child c.requires.route c.requires.kept told.0;
-        is = comes_to s a c.requires.going.known c.index_mut-me.result.now c.index_mut-me.ensures.value c.grow.new.self s.board told.1 (λ m n. refl)
+        is = comes_to s a c.requires.going.known c.index_mut-me.result.now c.index_mut-me.ensures.value c.grow.new.self s.board told.1 refl (λ m n. refl)
             s.shards.items s.shards.items refl s.pages.items s.pages.items refl c.see.new.self (saw s.board)
-            (ap (actor_of s.board.log a) c.see.ensures ∙ log_of s.board.log c.grow.new.self s.board told.1 a (λ n. record c.index_mut-me.result.now { seen = n }));
+            (ap (actor_of s.board.settings s.board.log a) c.see.ensures ∙ log_of s.board.settings s.board.log c.grow.new.self s.board told.1 a (λ n. record c.index_mut-me.result.now { seen = n }));
       },
       told.0,
     )

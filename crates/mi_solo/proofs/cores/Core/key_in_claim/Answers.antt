@@ -1,4 +1,4 @@
-use Rattle.std.proofs.Common.{◌≡◌, ◌≤◌, ◌∙◌, None, Option, Some, IsTrue, List, ℕ, ap, length, refl, subst, sym}
+use Rattle.std.proofs.Common.{◌≤◌, ◌∙◌, Option, IsTrue, List, ℕ, ap, length, subst, sym}
 use Rattle.std.proofs.lemmas.Option.{none-some}
 use Rattle.mi_base.specs.Configuration.{Configuration}
 use Rattle.mi_base.specs.Permutations.{key_distance}

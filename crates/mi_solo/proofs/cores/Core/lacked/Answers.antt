@@ -1,4 +1,4 @@
-use Rattle.std.proofs.Common.{◌≡◌, ◌∙◌, ap, is_some, sym}
+use Rattle.std.proofs.Common.{ap, sym}
 use Rattle.mi_entries.specs.Actors.{Actor}
 use Rattle.mi_solo.proofs.CoreLemmas.{row_is}
 use Rattle.mi_solo.proofs.cores.Core.lacked.Goals as goal

@@ -1,4 +1,4 @@
-use Rattle.std.proofs.Common.{◌≡◌, ap}
+use Rattle.std.proofs.Common.{ap}
 use Rattle.mi_core.specs.Effects.{looked}
 use Rattle.mi_solo.specs.States.{actor_of}
 use Rattle.mi_solo.proofs.CoreLemmas.{row_alone}
@@ -9,5 +9,5 @@ returns-clause-told c =
     let s = c.args.self.now in
     record {
       can = tt;
-      is = row_alone s c.args.actor c.requires.known c.index_mut.result.now c.index_mut.ensures.value c.look.new.self (looked s.board) (ap (actor_of s.board.log c.args.actor) c.look.ensures);
+      is = row_alone s c.args.actor c.requires.known c.index_mut.result.now c.index_mut.ensures.value c.look.new.self (looked s.board) (ap (actor_of s.board.settings s.board.log c.args.actor) c.look.ensures);
     }

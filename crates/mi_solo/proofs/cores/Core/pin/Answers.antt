@@ -1,12 +1,7 @@
-use Rattle.std.proofs.Common.{◌≡◌, None, Some, refl, sym, ap, ◌∙◌}
-use Rattle.mi_base.specs.History.{end_of}
-use Rattle.mi_board.specs.Boards.{BoardState, pinned}
+use Rattle.std.proofs.Common.{refl, ap, ◌∙◌}
 use Rattle.mi_core.specs.Actors.{pinned_at}
-use Rattle.mi_core.specs.Effects.{looked, saw}
-use Rattle.mi_entries.specs.Actors.{Actor}
-use Rattle.mi_tree.specs.Catalog.{CatalogState}
-use Rattle.mi_tree.specs.Legal.{cells_of}
-use Rattle.mi_solo.specs.States.{actor_in, actor_of, state_of}
+use Rattle.mi_core.specs.Effects.{saw}
+use Rattle.mi_solo.specs.States.{actor_of}
 use Rattle.mi_solo.proofs.BoardSections.{log_pinned}
 use Rattle.mi_solo.proofs.CoreLemmas.{comes_to, log_of, on_board, suits}
 use Rattle.mi_solo.proofs.cores.Core.pin.Goals as goal
@@ -27,7 +22,7 @@ returns-in-Err g c =
     let a = c.args.actor in
     record {
       can = tt;
-      is = comes_to s a c.requires.going.known c.index_mut-in-Err.result.now c.index_mut-in-Err.ensures.value c.pin.new.self s.board c.in-Err.ensures.err (λ m n. refl)
+      is = comes_to s a c.requires.going.known c.index_mut-in-Err.result.now c.index_mut-in-Err.ensures.value c.pin.new.self s.board c.in-Err.ensures.err refl (λ m n. refl)
           s.shards.items s.shards.items refl s.pages.items s.pages.items refl c.see.new.self (saw s.board)
-          (ap (actor_of s.board.log a) c.see.ensures ∙ log_of s.board.log c.pin.new.self s.board c.in-Err.ensures.err a (λ n. record c.index_mut-in-Err.result.now { seen = n }));
+          (ap (actor_of s.board.settings s.board.log a) c.see.ensures ∙ log_of s.board.settings s.board.log c.pin.new.self s.board c.in-Err.ensures.err a (λ n. record c.index_mut-in-Err.result.now { seen = n }));
     }

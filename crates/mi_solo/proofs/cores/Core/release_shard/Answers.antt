@@ -1,10 +1,9 @@
-use Rattle.std.proofs.Common.{◌≡◌, false, ◌<◌, None, Some, refl, sym, ap, ◌∙◌, subst, length, arith, set}
-use Rattle.std.proofs.lemmas.Option.{get_or_from_slice_get}
+use Rattle.std.proofs.Common.{◌≡◌, false, ◌<◌, None, Some, refl, sym, ap, ◌∙◌, length, arith, set}
 use Rattle.mi_core.specs.Events.{hand}
 use Rattle.mi_entries.specs.Actors.{Actor}
 use Rattle.mi_entries.specs.Records.{Shard, held_by, no_shard, shard_at}
 use Rattle.mi_solo.specs.States.{actor_in, actor_of, state_of}
-use Rattle.mi_solo.proofs.CoreLemmas.{comes_to, holds_shard, read_is, row_is, some_of, suits}
+use Rattle.mi_solo.proofs.CoreLemmas.{comes_to, holds_shard, read_is, row_is, some_of}
 use Rattle.mi_solo.proofs.cores.Core.release_shard.Goals as goal
 
 pub unreachable-requires : goal.unreachable-requires
@@ -31,7 +30,7 @@ returns c =
     let k : hand (actor_in (state_of s) a).shard ≡ c.in-Some.shard = ap hand held in
     record {
       can = (held ∙ ap Some (sym k), refl);
-      is = comes_to s a c.requires.going.known c.index_mut-me.result.now c.index_mut-me.ensures.value s.board s.board refl (λ m n. refl)
+      is = comes_to s a c.requires.going.known c.index_mut-me.result.now c.index_mut-me.ensures.value s.board s.board refl refl (λ m n. refl)
           (set s.shards.items c.in-Some.shard c.give.new.self) (set s.shards.items (hand (actor_in (state_of s) a).shard) (held_by None (shard_at s.shards.items (hand (actor_in (state_of s) a).shard)).rows)) (ap (set s.shards.items c.in-Some.shard) (c.give.ensures ∙ ap (λ (x : Shard). held_by None x.rows) kept) ∙ ap (λ n. set s.shards.items n (held_by None (shard_at s.shards.items n).rows)) (sym k)) s.pages.items s.pages.items refl c.leave_shard.new.self (λ (r : Actor). record r { shard = None; reserved_here = false })
-          (ap (actor_of s.board.log a) c.leave_shard.ensures);
+          (ap (actor_of s.board.settings s.board.log a) c.leave_shard.ensures);
     }

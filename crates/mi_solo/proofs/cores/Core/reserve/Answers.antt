@@ -1,4 +1,4 @@
-use Rattle.std.proofs.Common.{◌≡◌, ◌<◌, None, Some, refl, sym, ap, ◌∙◌, subst, length, arith}
+use Rattle.std.proofs.Common.{sym, ap, ◌∙◌, arith}
 use Rattle.mi_entries.specs.Actors.{Actor}
 use Rattle.mi_solo.specs.States.{actor_in, state_of}
 use Rattle.mi_entries.specs.Records.{Shard, no_shard}

@@ -9,5 +9,5 @@ returns c =
     let s = c.args.self.now in
     record {
       can = tt;
-      is = row_alone s c.args.actor c.requires.known c.index_mut.result.now c.index_mut.ensures.value c.see.new.self (saw s.board) (ap (actor_of s.board.log c.args.actor) c.see.ensures);
+      is = row_alone s c.args.actor c.requires.known c.index_mut.result.now c.index_mut.ensures.value c.see.new.self (saw s.board) (ap (actor_of s.board.settings s.board.log c.args.actor) c.see.ensures);
     }

@@ -21,9 +21,9 @@ returns c =
     c.trim.ensures ∙ ap (λ f. trim_node f c.in-Some.node) (sym floor) ∙ ap (trim_node (actor_in (state_of s) a).floor.updates) (sym is) in (
       record {
         can = record { there = here ∙ ap Some (sym is); level = c.requires.leaf };
-        is = comes_to s a c.requires.going.known c.index_mut-me.result.now c.index_mut-me.ensures.value s.board s.board refl (λ m n. refl) s.shards.items s.shards.items refl
+        is = comes_to s a c.requires.going.known c.index_mut-me.result.now c.index_mut-me.ensures.value s.board s.board refl refl (λ m n. refl) s.shards.items s.shards.items refl
             (set s.pages.items page (Some c.trim.new.self)) (set s.pages.items page (Some (trim_node (actor_in (state_of s) a).floor.updates (node_in (state_of s) page)))) (ap (λ n. set s.pages.items page (Some n)) now)
-            c.note.new.self (noted page) (ap (actor_of s.board.log a) c.note.ensures);
+            c.note.new.self (noted page) (ap (actor_of s.board.settings s.board.log a) c.note.ensures);
       },
       subst (λ (n : Node). TrimsTo n c.sibling.result) (sym is) (trims_alike c.in-Some.node c.index_mut-me.result.now.floor.updates c.sibling.result (subst (λ (n : Node). TrimsTo n c.sibling.result) c.trim.ensures c.sibling.ensures)),
     )

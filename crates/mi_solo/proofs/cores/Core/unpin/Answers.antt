@@ -1,4 +1,4 @@
-use Rattle.std.proofs.Common.{◌≡◌, None, refl, sym, ap, ◌∙◌}
+use Rattle.std.proofs.Common.{None, refl, sym, ap, ◌∙◌}
 use Rattle.std.proofs.lemmas.Option.{none-some}
 use Rattle.mi_board.specs.Actors.{without_pin}
 use Rattle.mi_board.specs.Boards.{with_actor}
@@ -23,7 +23,7 @@ returns c =
     let to = with_actor without_pin a s.board in
     record {
       can = (some.0, some.1);
-      is = comes_to s a c.requires.going.known c.index_mut.result.now c.index_mut.ensures.value c.unpin.new.self to c.unpin.ensures (λ m n. refl)
+      is = comes_to s a c.requires.going.known c.index_mut.result.now c.index_mut.ensures.value c.unpin.new.self to c.unpin.ensures refl (λ m n. refl)
           s.shards.items s.shards.items refl s.pages.items s.pages.items refl c.unpin-2.new.self (λ (r : Actor). record (saw s.board r) { pin = None })
-          (ap (actor_of s.board.log a) c.unpin-2.ensures ∙ log_of s.board.log c.unpin.new.self to c.unpin.ensures a (λ n. record c.index_mut.result.now { seen = n; pin = None }));
+          (ap (actor_of s.board.settings s.board.log a) c.unpin-2.ensures ∙ log_of s.board.settings s.board.log c.unpin.new.self to c.unpin.ensures a (λ n. record c.index_mut.result.now { seen = n; pin = None }));
     }
