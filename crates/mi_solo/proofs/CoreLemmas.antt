@@ -5,11 +5,10 @@ use Rattle.std.specs.Prelude.{IsSome, is_some, slice_get}
 use Rattle.std.proofs.lemmas.Bool.{false≢true}
 use Rattle.std.proofs.lemmas.Option.{none-some, slice_get-get_or}
 use Rattle.mi_base.specs.declared.records.LogEvent.{LogEvent}
-use Rattle.mi_base.specs.declared.records.Position.{Position}
 use Rattle.mi_base.specs.Configuration.{Configuration, IsWithinLimits, metric_space}
 use Rattle.mi_base.specs.Space.{IsMetric}
 use Rattle.mi_board.specs.Actors.{idle}
-use Rattle.mi_board.specs.Boards.{BoardState, cells_in, floor_of, opened_board}
+use Rattle.mi_board.specs.Boards.{BoardState, cells_in, opened_board}
 use Rattle.mi_core.proofs.KeptEvents.{opened_kept}
 use Rattle.mi_core.specs.Actors.{Suits, made_by}
 use Rattle.mi_core.specs.Events.{first_actor, opened}
@@ -130,10 +129,6 @@ module _ (c : Core) (a : ℕ) (known : a < length c.actors.items) where
 -- a row that tells how long the log of a board is, which is that of another
 pub log_of : (settings : Configuration) (log : List LogEvent) (b to : BoardState) → b ≡ to → (a : ℕ) (row : ℕ → ActorRow) → actor_of settings log a (row (length b.log)) ≡ actor_of settings log a (row (length to.log))
 log_of settings log b to is a row = ap (λ (z : BoardState). actor_of settings log a (row (length z.log))) is
-
--- the same, with the floor
-pub floor_is : (settings : Configuration) (log : List LogEvent) (b to : BoardState) → b ≡ to → (a : ℕ) (row : ℕ → Position → ActorRow) → actor_of settings log a (row (length b.log) (floor_of b)) ≡ actor_of settings log a (row (length to.log) (floor_of to))
-floor_is settings log b to is a row = ap (λ (z : BoardState). actor_of settings log a (row (length z.log) (floor_of z))) is
 
 -- what was read at a place
 pub read_is : {X : Type 0} (xs : List X) (i : ℕ) (d x : X) → i < length xs → x ≡ get_or xs i x → x ≡ get_or xs i d
