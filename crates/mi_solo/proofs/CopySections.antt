@@ -1,6 +1,6 @@
 -- What the sections that copy a split's entries make of the state.
 use Rattle.std.proofs.Common.{◌≡◌, ◌≢◌, ℕ, ◌+◌, ◌-◌, ◌<◌, ◌≤◌, length, get_or, set, Bool, true, false, IsTrue, cond, refl, sym, ap, ◌∙◌, subst, arith, Option, Some, None}
-use Rattle.std.specs.Prelude.{slice_get}
+use Rattle.std.specs.Prelude.{is_some, slice_get}
 use Rattle.mi_base.specs.Sorting.{put}
 use Rattle.mi_core.specs.Effects.{drop_entry, put_entry, trim_leaf, trim_node}
 use Rattle.mi_core.specs.Events.{Can, copied_of, copied_to, with_split_at}
@@ -27,7 +27,7 @@ use Rattle.mi_world.specs.declared.answers.Put.{Put}
 use Rattle.mi_world.specs.declared.answers.Put.TheVariants as answer
 use Rattle.mi_solo.proofs.CopyEvents.{can_copy, can_uncopy, copy_absent, copy_there, last_is, next_is}
 use Rattle.mi_solo.proofs.CoreLemmas.{comes_to, row_is, there}
-use Rattle.mi_solo.proofs.HandLemmas.{none_shown, split_shown}
+use Rattle.mi_solo.proofs.HandLemmas.{split_shown}
 use Rattle.mi_solo.proofs.InsertSection.{few_entries, trims_leaf}
 use Rattle.mi_solo.proofs.PageLemmas.{node_here}
 use Rattle.mi_solo.proofs.RouteLaws.{full_kept}
@@ -43,30 +43,38 @@ module _ (c : Core) (a : ℕ) (known : a < length c.actors.items) (row : ActorRo
   gathered_is = (split_shown (state_of c) a (actor_in (state_of c) a) (work_of w) splitting).0
 
 -- no more is copied than is gathered
-pub fewer_copied : (c : Core) (a : ℕ) → a < length c.actors.items → Kept (state_of c) → copied_in (view_in (state_of c) a) ≤ gathered_in (view_in (state_of c) a)
+pub fewer_copied : (c : Core) (a : ℕ) → a < length c.actors.items → Kept (state_of c) → (view_in (state_of c) a).copied ≤ gathered_in (view_in (state_of c) a)
 fewer_copied c a known kept =
     let r : Actor = actor_in (state_of c) a in
-    let P : Option SplitWork → Type 0 = λ o. r.split ≡ o → copied_in (view_in (state_of c) a) ≤ gathered_in (view_in (state_of c) a) in
+    let P : Option SplitWork → Type 0 = λ o. r.split ≡ o → (view_in (state_of c) a).copied ≤ gathered_in (view_in (state_of c) a) in
     (elim r.split as P [
-      | None ↦ λ e. let n = (none_shown (state_of c) a r e).1 in omega (arith, n)
-      | Some w ↦ λ e. let n = split_shown (state_of c) a r w e in let few = (kept.sound.entries.works a r w (there c a known) e).few in omega (arith, n.0, n.1, few)
+      | None ↦ λ e. let n = ap copied_of e in omega (arith, n)
+      | Some w ↦ λ e. let n = ap copied_of e in let m = (split_shown (state_of c) a r w e).0 in let few = (kept.sound.entries.works a r w (there c a known) e).few in omega (arith, n, m, few)
     ]) refl
+
+-- the count that the view tells is the split's, and 0 without one
+pub copied_shown : (s : State) (a : ℕ) → copied_in (view_in s a) ≡ (view_in s a).copied
+copied_shown s a = go (actor_in s a).split
+  where
+    go : (o : Option SplitWork) → cond (is_some o) (copied_of o) 0 ≡ copied_of o
+    go None = refl
+    go (Some w) = refl
 
 -- the key of the copy at the next place, and at the last one
 module _ (s : State) (a place : ℕ) (e : Entry) (copy : IsCopyAt s a place e) where
-  pub count : copied_in (view_in s a) ≡ copy.work.copied
-  count = (split_shown s a (actor_in s a) copy.work copy.split).1
+  count : (view_in s a).copied ≡ copy.work.copied
+  count = ap copied_of copy.split
 
-  pub next_there : place ≡ copied_in (view_in s a) → slice_get copy.work.gathered copy.work.copied ≡ Some copy.old
+  pub next_there : place ≡ (view_in s a).copied → slice_get copy.work.gathered copy.work.copied ≡ Some copy.old
   next_there same = ap (slice_get copy.work.gathered) (sym (same ∙ count)) ∙ copy.there
 
-  pub next_key : place ≡ copied_in (view_in s a) → e.key ≡ next_copy (view_in s a)
+  pub next_key : place ≡ (view_in s a).copied → e.key ≡ next_copy (view_in s a)
   next_key same = ap (λ (x : Entry). x.key) copy.is ∙ sym (next_is s a (actor_in s a) copy.work copy.split copy.old (next_there same))
 
-  pub last_there : place ≡ copied_in (view_in s a) - 1 → slice_get copy.work.gathered (copy.work.copied - 1) ≡ Some copy.old
+  pub last_there : place ≡ (view_in s a).copied - 1 → slice_get copy.work.gathered (copy.work.copied - 1) ≡ Some copy.old
   last_there same = ap (slice_get copy.work.gathered) (sym (same ∙ ap (λ n. n - 1) count)) ∙ copy.there
 
-  pub last_key : place ≡ copied_in (view_in s a) - 1 → e.key ≡ last_copy (view_in s a)
+  pub last_key : place ≡ (view_in s a).copied - 1 → e.key ≡ last_copy (view_in s a)
   last_key same = ap (λ (x : Entry). x.key) copy.is ∙ sym (last_is s a (actor_in s a) copy.work copy.split copy.old (last_there same))
 
   -- where the key lies in the page, that tells the answer
@@ -100,13 +108,13 @@ module _ (c : Core) (a : ℕ) (known : a < length c.actors.items) (kept : Kept (
     row_split : split_of row.split ≡ Some copy.work
     row_split = sym (ap (λ (x : Actor). x.split) (row_is c a known row at)) ∙ copy.split
 
-    row_count : copied_in (view_in (state_of c) a) ≡ copied_of (split_of row.split)
-    row_count = count (state_of c) a place e copy ∙ ap copied_of (sym row_split)
+    row_count : (view_in (state_of c) a).copied ≡ copied_of (split_of row.split)
+    row_count = ap copied_of (copy.split ∙ sym row_split)
 
     level : node.level ≡ 0
     level = ap (λ (n : Node). n.level) (sym it) ∙ ends.level
 
-    module _ (same : place ≡ copied_in (view_in (state_of c) a)) (trimmed : Node) (trim : trimmed ≡ trim_node row.floor.updates node) where
+    module _ (same : place ≡ (view_in (state_of c) a).copied) (trimmed : Node) (trim : trimmed ≡ trim_node row.floor.updates node) where
       now_trimmed : trimmed ≡ trim_node (actor_in (state_of c) a).floor.updates (node_in (state_of c) page)
       now_trimmed = trim ∙ ap (λ f. trim_node f node) (sym floor) ∙ ap (trim_node r.floor.updates) (sym it)
 
@@ -138,9 +146,9 @@ module _ (c : Core) (a : ℕ) (known : a < length c.actors.items) (kept : Kept (
           }
 
     -- the last copy is taken back
-    module _ (same : place ≡ copied_in (view_in (state_of c) a) - 1) (some : 0 < copied_in (view_in (state_of c) a)) where
+    module _ (same : place ≡ (view_in (state_of c) a).copied - 1) (some : 0 < (view_in (state_of c) a).copied) where
       some_copied : 0 < copy.work.copied
-      some_copied = omega (arith, some, count (state_of c) a place e copy)
+      some_copied = omega (arith, some, ap copied_of copy.split)
 
       pub last_one : has_entry e.key node.entries ≡ true
       last_one = ap (λ (x : Entry). has_entry x.key node.entries) copy.is ∙ ap (λ (n : Node). has_entry (copy_in_child (grid c.board.settings) copy.work.leaf copy.old).key n.entries) (sym it)

@@ -1,35 +1,26 @@
 -- What is gathered of a leaf.
-use Rattle.std.proofs.Common.{◌≡◌, ℕ, ◌+◌, ◌≤◌, List, [], ◌++◌, length, map, Bool, false, cond, ◌&&◌, nat_lt, refl, sym, ap, ◌∙◌, subst, arith, Option, Some, None, is_some, set}
+use Rattle.std.proofs.Common.{◌≡◌, ℕ, ◌+◌, ◌≤◌, List, [], ◌++◌, length, map, false, cond, refl, sym, ap, ◌∙◌, subst, arith, Option, Some, None, is_some, set}
 use Rattle.std.specs.Prelude.{slice_get, Result, Ok, Err}
-use Rattle.std.specs.List.{filter}
-use Rattle.std.proofs.lemmas.Bool.{and_parts, le-leb, lt-leb}
-use Rattle.std.proofs.lemmas.List.{length-map, take_all}
+use Rattle.std.proofs.lemmas.Bool.{le-leb, lt-leb}
+use Rattle.std.proofs.lemmas.List.{length-map}
 use Rattle.std.proofs.lemmas.Option.{same_Some}
 use Rattle.mi_base.specs.declared.records.LogEvent.{LogEvent}
 use Rattle.mi_base.specs.declared.records.LogEvent.TheVariants.{Split}
 use Rattle.mi_base.specs.declared.refusals.NoMemory.{NoMemory}
 use Rattle.mi_base.specs.Configuration.{Configuration}
-use Rattle.mi_base.specs.History.{end_of, updates_of}
-use Rattle.mi_base.specs.Sorting.{SameElements}
-use Rattle.mi_base.proofs.SortingLemmas.{same_length}
-use Rattle.mi_key.specs.declared.entries.Entry.{Entry}
 use Rattle.mi_page.specs.Keys.{IsInside, is_below}
 use Rattle.mi_page.specs.Nodes.{Node}
-use Rattle.mi_tree.specs.Births.{born}
 use Rattle.mi_tree.specs.Cells.{Grid}
 use Rattle.mi_tree.specs.Legal.{MayFollow}
-use Rattle.mi_tree.proofs.ListLemmas.{filter_twice}
-use Rattle.mi_board.proofs.FloorLemmas.{end_events, least_low}
 use Rattle.mi_entries.specs.Actors.{Actor, SplitWork}
-use Rattle.mi_entries.specs.Entries.{born_in, counts, grid, is_under}
+use Rattle.mi_entries.specs.Entries.{grid}
 use Rattle.mi_entries.specs.Marks.{cell_end, cell_start, gather_more, mark_past, split_or}
 use Rattle.mi_entries.specs.Marks as marks
-use Rattle.mi_entries.specs.Splits.{IsWork, copy_in_child}
-use Rattle.mi_forest.specs.Forests.{all_entries}
+use Rattle.mi_entries.specs.Splits.{copy_in_child}
 use Rattle.mi_core.specs.Events.{Can, after, copied_of, leaf_or, with_split_at}
 use Rattle.mi_core.specs.Events.Event.{gather, start}
 use Rattle.mi_core.specs.Kept.{Kept}
-use Rattle.mi_core.specs.Pages.{forest_of, node_or_fresh}
+use Rattle.mi_core.specs.Pages.{node_or_fresh}
 use Rattle.mi_core.specs.State.{State, node_at, put_actor}
 use Rattle.mi_core.proofs.ActorLemmas.{set_there}
 use Rattle.mi_core.proofs.KeptEvents.{each_keeps}
@@ -43,7 +34,8 @@ use Rattle.mi_solo.specs.Seeking.{EndsAfter, PointsDown, PointsRight, ReadsOn}
 use Rattle.mi_solo.specs.Viewing.{copy_keys, gathered_to, is_whole, leaf_wanted, shown_to}
 use Rattle.mi_solo.proofs.DescentLemmas.{goes_down, goes_right, is_reached, reads_to}
 use Rattle.mi_solo.proofs.LaterLemmas.{onward}
-use Rattle.mi_solo.proofs.MarkLemmas.{born_few, end_is, fewer, map_more, mark_ends, mark_on, start_before}
+use Rattle.mi_solo.proofs.KeyLemmas.{gathered_few}
+use Rattle.mi_solo.proofs.MarkLemmas.{end_is, map_more, mark_ends, mark_on, start_before}
 use Rattle.mi_solo.proofs.OwnLemmas.{later_own, made}
 use Rattle.mi_solo.proofs.QuietLemmas.{board_by, leaf_by, tries_by, update_by}
 
@@ -175,28 +167,8 @@ module _ (s : State) (k : Kept s) (a : ℕ) (r : Actor) (there : slice_get s.act
       k' : Kept (after s a r (gather page node))
       k' = each_keeps (gather page node) s k a r there going can
 
-      abbrev F : List Entry
-      F = all_entries (forest_of (after s a r (gather page node)).board (after s a r (gather page node)).pages (after s a r (gather page node)).actors k'.sound.chain)
-
-      its_work : IsWork (grid s.board.settings) s.board.log F (gather_more (grid s.board.settings) (split_or (grid s.board.settings) (leaf_or r.claim) r.split) node)
-      its_work = k'.sound.entries.works a qg G now_g refl
-
       few : length wg.copies ≤ 200000
-      few =
-          let T : Entry → Bool = λ e. is_under g G.leaf e && (counts g log e && nat_lt e.key G.mark) in
-          let shows = k'.sound.entries.shows (length log) (omega (arith, least_low (end_of log) s.board.actors, end_events log)) (omega arith) in
-          omega (
-            arith,
-            length-map G.gathered (λ e. (copy_in_child g G.leaf e).key),
-            ap length its_work.gathered,
-            ap length (filter_twice (λ e. counts g log e && nat_lt e.key G.mark) (is_under g G.leaf) F),
-            fewer T (counts g log) (λ e h. (and_parts (counts g log e) (nat_lt e.key G.mark) (and_parts (is_under g G.leaf e) (counts g log e && nat_lt e.key G.mark) h).1).0) F,
-            length-map (filter (counts g log) F) born_in,
-            same_length _ _ (subst (λ l. SameElements (map born_in (filter (counts g l) F)) (born (updates_of l))) (take_all (length log) log (omega arith)) shows.same),
-            born_few 0 [] (updates_of log),
-            k.sound.legal.few,
-            k.sound.limits.updates.1,
-          )
+      few = omega (arith, length-map G.gathered (λ e. (copy_in_child g G.leaf e).key), gathered_few t k' a qg now_g G refl)
 
       more : wg.copies ≡ copies_in v ++ map (λ e. (copy_in_child g W.leaf e).key) (marks.gathered_in g W node)
       more = map_more (λ e. (copy_in_child g W.leaf e).key) W.gathered (marks.gathered_in g W node) ∙ ap (λ ks. ks ++ map (λ e. (copy_in_child g W.leaf e).key) (marks.gathered_in g W node)) copies_are

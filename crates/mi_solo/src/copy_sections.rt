@@ -1,12 +1,11 @@
 //! Copies of what is gathered of a leaf, made and taken back.
 ghost use Rattle.std.specs.Prelude.{◌≡◌, ◌<◌, ◌≤◌, ◌-◌, IsTrue, length, true};
+ghost use Rattle.mi_core.specs.Events.Event.{uncopy};
 ghost use Rattle.mi_core.specs.Kept.{Kept};
-ghost use Rattle.mi_key.specs.declared.entries.Entry.{Entry};
 ghost use Rattle.mi_solo.specs.Copying.{CopiesIn, IsCopyAt, TakesCopy, Uncopies};
 ghost use Rattle.mi_solo.specs.Seeking.{EndsAfter};
 ghost use Rattle.mi_solo.specs.States.{Does, IsGoing, is_linked, node_in, state_of, view_in};
-ghost use Rattle.mi_core.specs.Events.Event.{uncopy};
-ghost use Rattle.mi_world.specs.Splits.{IsGathered, copied_in, gathered_in, last_copy, next_copy};
+ghost use Rattle.mi_world.specs.Splits.{IsGathered, gathered_in, last_copy, next_copy};
 
 use crate::copying::copy_in_child;
 use crate::cores::Core;
@@ -50,7 +49,7 @@ impl Core {
     pub fn uncopy(&mut self, actor: u32, page: u32) -> Put
         requires going { IsGoing self.old actor }
         requires kept { Kept (state_of self.old) }
-        requires some { 0 < copied_in (view_in (state_of self.old) actor) }
+        requires some { 0 < (view_in (state_of self.old) actor).copied }
         requires linked { IsTrue (is_linked (state_of self.old) page) }
         requires low { (node_in (state_of self.old) page).low ≤ last_copy (view_in (state_of self.old) actor) }
         ensures { Uncopies (state_of self.old) actor page result (state_of self.new) }
@@ -97,7 +96,7 @@ impl Core {
         requires going { IsGoing self.old actor }
         requires kept { Kept (state_of self.old) }
         requires whole { (view_in (state_of self.old) actor).whole ≡ true }
-        requires copied { copied ≡ copied_in (view_in (state_of self.old) actor) }
+        requires copied { copied ≡ (view_in (state_of self.old) actor).copied }
         requires copy { IsCopyAt (state_of self.old) actor copied entry }
         requires linked { IsTrue (is_linked (state_of self.old) page) }
         requires low { (node_in (state_of self.old) page).low ≤ entry.key }
@@ -122,8 +121,8 @@ impl Core {
     fn drop_copy(&mut self, actor: u32, page: u32, left: usize, entry: &Entry)
         requires going { IsGoing self.old actor }
         requires kept { Kept (state_of self.old) }
-        requires some { 0 < copied_in (view_in (state_of self.old) actor) }
-        requires left { left ≡ copied_in (view_in (state_of self.old) actor) - 1 }
+        requires some { 0 < (view_in (state_of self.old) actor).copied }
+        requires left { left ≡ (view_in (state_of self.old) actor).copied - 1 }
         requires copy { IsCopyAt (state_of self.old) actor left entry.now }
         requires linked { IsTrue (is_linked (state_of self.old) page) }
         requires low { (node_in (state_of self.old) page).low ≤ entry.now.key }
