@@ -43,7 +43,8 @@ lacks_answer (op.Range radius query) Memory = true
 lacks_answer (op.Nearest count query) Memory = true
 lacks_answer o y = false
 
--- the least and the greatest number of steps of an operation with such a reply, where they are told
+-- The least and the greatest number of steps of an operation with such a reply, where they are told. An insert's vector may have
+-- been measured whatever the reply.
 abbrev pub least_steps : Configuration → Op → Reply → ℕ
 least_steps c (op.Insert id vector) (Stored number) = length c.pivots
 least_steps c (op.Range radius query) (Range p rows cells distances) = distances
@@ -51,8 +52,7 @@ least_steps c (op.Nearest count query) (Nearest p rows cells) = length c.pivots
 least_steps c o y = 0
 
 abbrev pub most_steps : Configuration → List LogEvent → Op → Reply → ℕ
-most_steps c log (op.Insert id vector) (Stored number) = length c.pivots
-most_steps c log (op.Insert id vector) Memory = length c.pivots
+most_steps c log (op.Insert id vector) y = length c.pivots
 most_steps c log (op.Range radius query) (Range p rows cells distances) = distances
 most_steps c log (op.Nearest count query) (Nearest p rows cells) = length c.pivots + objects_reached c log count query (Nearest p rows cells)
 most_steps c log o y = 0
