@@ -16,6 +16,7 @@ use Rattle.mi_tree.specs.declared.outcomes.Leaf.{Leaf}
 use Rattle.mi_tree.proofs.GrowingLemmas.{end_events}
 use Rattle.mi_world.specs.Boards.{Pins}
 use Rattle.mi_world.specs.Pages.{pinned}
+use Rattle.mi_world.specs.Queries.{Pinned, pinned_cells}
 use Rattle.mi_world.specs.View.{View}
 use Rattle.mi_blink.specs.declared.turns.Turn.{Turn}
 use Rattle.mi_blink.specs.declared.turns.Turn.TheVariants as turn
@@ -54,7 +55,7 @@ module _ (i j : NearestOp) (v w : View) (ready : StateIsReady j.state j w) where
   not_over n e = absurd (subst (λ s. StateIsReady s j w) e ready)
 
   opens_from : (opened root : ℕ) (at : Position) → OpensFrom j w opened root at → GoesFrom j.state (events_at at) w
-  opens_from opened root at h = opens (nearing.dists_of j w) w.settings.levels (nearing.pinned_cells w) h.0.ranks.items h.0.work opened root at w j.state h.2
+  opens_from opened root at h = opens (nearing.dists_of j w) w.settings.levels (pinned_cells w) h.0.ranks.items h.0.work opened root at w j.state h.2
 
   from_pin : (result : Result Look NoMemory) → Pins v w result → FollowsPin result j w → GoesFrom j.state (length w.seen) w
   from_pin (Ok look) pins (inl e) = record { begun = rw e refl; since = rw e refl }
@@ -182,7 +183,7 @@ module _ (i j : NearestOp) (k : ℕ) (b : Bool) (v w : View) (ready : nearing.Re
           let same : op.Nearest j.count j.query ≡ op.Nearest i.count i.query = rw (t.count_is, t.query_is) refl in
           subst (λ o. Right w.settings w.seen allotted w.actor k o y) same (t.outcome.3 allotted k)
 
-      pinned_low : (at : Position) → nearing.Pinned at v → events_at at ≤ length w.seen
+      pinned_low : (at : Position) → Pinned at v → events_at at ≤ length w.seen
       pinned_low at h =
           let all : events_at at ≡ length (pinned v) = ap events_at h.at_is ∙ end_events (pinned v) in
           omega (arith, all, ap length h.seen.is, length-append (pinned v) h.seen.by, seen_more v w t.later)

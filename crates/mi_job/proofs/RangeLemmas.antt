@@ -13,6 +13,7 @@ use Rattle.mi_tree.specs.declared.outcomes.Leaf.{Leaf}
 use Rattle.mi_tree.proofs.GrowingLemmas.{end_events}
 use Rattle.mi_world.specs.Boards.{Pins}
 use Rattle.mi_world.specs.Pages.{pinned}
+use Rattle.mi_world.specs.Queries.{Pinned}
 use Rattle.mi_world.specs.View.{View}
 use Rattle.mi_blink.specs.declared.turns.Turn.{Turn}
 use Rattle.mi_blink.specs.declared.turns.Turn.TheVariants as turn
@@ -158,7 +159,7 @@ module _ (i j : RangeOp) (k : ℕ) (b : Bool) (v w : View) (ready : ranging.Read
           let same : op.Range j.radius j.query ≡ op.Range i.radius i.query = rw (t.radius_is, t.query_is) refl in
           subst (λ o. Right w.settings w.seen allotted w.actor k o y) same (t.outcome.3 allotted k)
 
-      pinned_low : (at : Position) → ranging.Pinned at v → events_at at ≤ length w.seen
+      pinned_low : (at : Position) → Pinned at v → events_at at ≤ length w.seen
       pinned_low at h =
           let all : events_at at ≡ length (pinned v) = ap events_at h.at_is ∙ end_events (pinned v) in
           omega (arith, all, ap length h.seen.is, length-append (pinned v) h.seen.by, seen_more v w t.later)

@@ -1,15 +1,14 @@
 -- Where a query goes on at a leaf, or has read all; and what is kept while its pin stays.
-use Rattle.std.proofs.Common.{◌≡◌, ℕ, suc, zero, ℤ, ◌+◌, ◌-◌, ◌*◌, ◌≤◌, List, [], ◌∷◌, ◌++◌, length, take, Bool, true, false, ◌||◌, nat_eq, Option, Some, None, IsTrue, refl, sym, ap, ◌∙◌, subst, arith}
+use Rattle.std.proofs.Common.{◌≡◌, ℕ, suc, zero, ◌+◌, ◌-◌, ◌*◌, ◌≤◌, List, [], ◌∷◌, ◌++◌, length, take, true, nat_eq, Option, Some, None, IsTrue, refl, sym, ap, ◌∙◌, subst, arith}
 use Rattle.std.specs.Prelude.{slice_get, drop}
 use Rattle.std.specs.List.{AllByRecursion}
 use Rattle.std.proofs.lemmas.Bool.{and_parts, eqb-true}
-use Rattle.std.proofs.lemmas.List.{length-map, take-append-drop}
+use Rattle.std.proofs.lemmas.List.{take-append-drop}
 use Rattle.mi_base.specs.declared.records.Position.{Position}
 use Rattle.mi_base.specs.Configuration.{metric_space}
 use Rattle.mi_base.specs.History.{events_at}
 use Rattle.mi_base.specs.Permutations.{distances}
 use Rattle.mi_base.specs.Prefixes.{all_below}
-use Rattle.mi_base.specs.Space.{MetricSpace}
 use Rattle.mi_blink.specs.declared.walk.Walk.{Walk}
 use Rattle.mi_blink.specs.Descents.{IsRoot, longest}
 use Rattle.mi_blink.specs.Walking.{so_far}
@@ -26,37 +25,24 @@ use Rattle.mi_nearest.specs.declared.nearest.NearestState.TheVariants.{Begin, Wa
 use Rattle.mi_nearest.specs.declared.order.Rank.{Rank}
 use Rattle.mi_nearest.specs.Nearing.{NearestWorkState, TakesNearest, worst_of}
 use Rattle.mi_nearest.specs.Order.{IsRanked}
-use Rattle.mi_nearest.specs.Querying.{HasOpened, HasRead, IsOpened, IsReading, OpensNext, Pinned, StateIsReady, dists_of, left_at, most_at, objects_at, pinned_cells, since_at}
+use Rattle.mi_nearest.specs.Querying.{HasOpened, HasRead, IsOpened, IsReading, OpensNext, StateIsReady, dists_of, left_at, most_at, objects_at, since_at}
 use Rattle.mi_nearest.specs.Taking.{takes_none}
 use Rattle.mi_nearest.proofs.WalkLemmas.{few_done}
 use Rattle.mi_rules.specs.Spans.{is_in_hull, is_in_span, is_near}
 use Rattle.mi_tree.specs.declared.outcomes.Leaf.{Leaf}
 use Rattle.mi_tree.specs.Catalog.{CatalogState}
-use Rattle.mi_tree.specs.Cells.{same_cell}
-use Rattle.mi_tree.specs.Counting.{has_leaf}
-use Rattle.mi_tree.specs.Growing.{Grows}
 use Rattle.mi_tree.proofs.FitLemmas.{Fits}
-use Rattle.mi_tree.proofs.GrowingLemmas.{grows_on}
-use Rattle.mi_tree.proofs.LeafLemmas.{same_self}
 use Rattle.mi_tree.proofs.LimitLemmas.{cells_fit}
 use Rattle.mi_tree.proofs.ListLemmas.{all_weaker}
 use Rattle.mi_world.specs.Pages.{IsInLeaf, pinned}
+use Rattle.mi_world.specs.Queries.{Pinned, pinned_cells}
 use Rattle.mi_world.specs.View.{View}
+use Rattle.mi_world.proofs.QueryLemmas.{leaf_there, long}
 
 pub times : (a b k : ℕ) → a ≡ b + 1 → a * k ≡ b * k + k
 times a b k h = rw h (omega arith)
 
 -- while the pin stays
-
-pub pinned_keeps : (at : Position) (v w : View) → w.settings ≡ v.settings → w.pin ≡ v.pin → Grows v.seen w.seen → Pinned at v → Pinned at w
-pinned_keeps at v w settings pin grows h = record {
-  pin = rw pin h.pin;
-  at_is = rw pin h.at_is;
-  seen = grows_on (pinned w) v.seen w.seen (rw pin h.seen) grows;
-  limits = rw settings h.limits;
-  legal = rw (settings, pin) h.legal;
-}
-
 pub opened_keeps : (op : NearestOp) (opened : ℕ) (ranks : List Rank) (work : NearestWorkState) (v w : View) → w.settings ≡ v.settings → w.pin ≡ v.pin
     → HasOpened op opened ranks work v → HasOpened op opened ranks work w
 opened_keeps op opened ranks work v w settings pin h = record {
@@ -68,15 +54,6 @@ opened_keeps op opened ranks work v w settings pin h = record {
   keeps = rw (settings, pin) h.keeps;
 }
 
--- as many distances as there are pivots
-long : (op : NearestOp) (w : View) → length (dists_of op w) ≡ length w.settings.pivots
-long op w = length-map w.settings.pivots (λ (x : List ℤ). (metric_space w.settings).d op.query x)
-
--- the distances that were measured are the query's
-pub measured : (op : NearestOp) (v w : View) (m : MetricSpace) (pivots : List (List ℤ)) (dq : List ℕ) → w.settings ≡ v.settings → m ≡ metric_space v.settings → pivots ≡ v.settings.pivots
-    → dq ≡ distances (record { metric = m; pivots = pivots }) op.query → dq ≡ dists_of op w
-measured op v w m pivots dq settings space same is = is ∙ rw (space, same, settings) refl
-
 -- what the pinned catalog and the work's own distances say of the leaf that is opened next
 pub opens_here : (op : NearestOp) (w : View) (dq : List ℕ) (k : CatalogState) (ranks : List Rank) (work : NearestWorkState) (opened root : ℕ) (at : Position) (s : NearestState) → dq ≡ dists_of op w
     → k ≡ record { pivots = length w.settings.pivots; levels = w.settings.levels; leaves = pinned_cells w } → OpensNext dq k.levels k.leaves ranks work opened root at s
@@ -86,7 +63,7 @@ opens_here op w dq k ranks work opened root at s dists catalog h = rw (dists, ca
 pub fit_here : (op : NearestOp) (at : Position) (w : View) (dq : List ℕ) (k : CatalogState) → Pinned at w → dq ≡ dists_of op w
     → k ≡ record { pivots = length w.settings.pivots; levels = w.settings.levels; leaves = pinned_cells w } → AllByRecursion (λ (l : Leaf). Fits (length dq) k.levels l.prefix) k.leaves
 fit_here op at w dq k holds dists catalog =
-    let fit = subst (λ (n : ℕ). AllByRecursion (λ (l : Leaf). Fits n w.settings.levels l.prefix) (pinned_cells w)) (sym (long op w)) (cells_fit w.settings holds.limits (pinned w) holds.legal) in
+    let fit = subst (λ (n : ℕ). AllByRecursion (λ (l : Leaf). Fits n w.settings.levels l.prefix) (pinned_cells w)) (sym (long op.query w)) (cells_fit w.settings holds.limits (pinned w) holds.legal) in
     rw (dists, catalog) fit
 
 pub below_here : (op : NearestOp) (at : Position) (w : View) (dq : List ℕ) (k : CatalogState) → Pinned at w → dq ≡ dists_of op w
@@ -111,15 +88,6 @@ parted (y ∷ xs) zero x at =
     ap (λ z. z ∷ xs) same
 parted (y ∷ xs) (suc i) x at = ap (λ ys. y ∷ ys) (parted xs i x at)
 
-leaf_there : (ls : List Leaf) (i : ℕ) (l : Leaf) → slice_get ls i ≡ Some l → has_leaf l.prefix ls ≡ true
-leaf_there [] i l at = cc
-leaf_there (m ∷ ls) zero l at =
-    let same : l ≡ m = cc in
-    ap (λ (x : Leaf). same_cell l.prefix x.prefix || has_leaf l.prefix ls) (sym same) ∙ ap (λ b. b || has_leaf l.prefix ls) (same_self l.prefix)
-leaf_there (m ∷ ls) (suc i) l at =
-    let P : Bool → Type 0 = λ b. (b || has_leaf l.prefix ls) ≡ true in
-    elim (same_cell l.prefix m.prefix) as P [ true ↦ refl | false ↦ leaf_there ls i l at ]
-
 -- what is near lies in the hull
 near_in_hull : (dq : List ℕ) (worst : Option ℕ) (levels : ℕ) (prefix : List ℕ) (hull : ℕ × ℕ) (key : KeyParts) → is_near dq worst levels prefix hull key ≡ true → is_in_hull (length dq) levels prefix hull key ≡ true
 near_in_hull dq None levels prefix hull key h = h
@@ -141,7 +109,7 @@ module _ (op : NearestOp) (opened root : ℕ) (at : Position) (w : View) (holds 
         let near = near_in_hull dq (worst_of kept.work) w.settings.levels o.leaf.prefix o.hull (parts_of key) (sym (o.has key) ∙ h) in
         eqb-true (parts_of key).cluster (cluster_of (length dq) w.settings.levels o.leaf.prefix)
         (and_parts (nat_eq (parts_of key).cluster (cluster_of (length dq) w.settings.levels o.leaf.prefix)) _ near).0
-        ∙ ap (λ (k : ℕ). cluster_of k w.settings.levels o.leaf.prefix) (long op w);
+        ∙ ap (λ (k : ℕ). cluster_of k w.settings.levels o.leaf.prefix) (long op.query w);
   }
 
   abbrev Opens : NearestState → Type 0

@@ -1,5 +1,5 @@
 -- Queries while others act, and how many sections they have.
-use Rattle.std.proofs.Common.{◌≡◌, ℕ, ◌+◌, ◌-◌, ◌*◌, ◌<◌, ◌≤◌, ◌^◌, List, length, refl, sym, subst, arith, ◌∙◌}
+use Rattle.std.proofs.Common.{◌≡◌, ℕ, ◌+◌, ◌-◌, ◌*◌, ◌<◌, ◌≤◌, ◌^◌, List, length, refl, sym, subst, arith}
 use Rattle.std.proofs.Math.Nat.{mul-le-mul_right}
 use Rattle.mi_base.specs.Configuration.{metric_space}
 use Rattle.mi_blink.specs.Descents.{longest}
@@ -11,13 +11,14 @@ use Rattle.mi_nearest.specs.declared.nearest.NearestState.{NearestState}
 use Rattle.mi_nearest.specs.declared.nearest.NearestState.TheVariants.{Begin, Walking, Ending, Refusing, Over}
 use Rattle.mi_nearest.specs.declared.order.Rank.{Rank}
 use Rattle.mi_nearest.specs.Nearing.{TakesNearest}
-use Rattle.mi_nearest.specs.Querying.{Ready, SameButPin, Since, StateIsReady, least_at, left, left_at, most, most_at, pinned_cells, ranks_of, since_at}
-use Rattle.mi_nearest.proofs.NextLemmas.{opened_keeps, pinned_keeps}
-use Rattle.mi_nearest.proofs.SectionLemmas.{walk_same}
+use Rattle.mi_nearest.specs.Querying.{Ready, Since, StateIsReady, least_at, left, left_at, most, most_at, ranks_of, since_at}
+use Rattle.mi_nearest.proofs.NextLemmas.{opened_keeps}
 use Rattle.mi_tree.proofs.GrowingLemmas.{grows_length}
 use Rattle.mi_tree.proofs.LimitLemmas.{few_cells}
 use Rattle.mi_world.specs.Pages.{pinned}
+use Rattle.mi_world.specs.Queries.{pinned_cells}
 use Rattle.mi_world.specs.View.{Others, View}
+use Rattle.mi_world.proofs.QueryLemmas.{pinned_keeps, same_on, walk_same}
 use Rattle.mi_world.proofs.ViewLemmas.{later_later}
 
 module _ (v w : View) (o : Others v w) where
@@ -79,24 +80,6 @@ since_rises v w o (Walking opened root at walk) = omega arith
 since_rises v w o (Ending cells at) = omega arith
 since_rises v w o Refusing = grows_length v.seen w.seen o.later.grows
 since_rises v w o Over = grows_length v.seen w.seen o.later.grows
-
-pub same_on : (u v w : View) → SameButPin u v → SameButPin v w → SameButPin u w
-same_on u v w a b = record {
-  update = record { own = b.update.own ∙ a.update.own; shard = b.update.shard ∙ a.update.shard; records = b.update.records ∙ a.update.records; reserved = b.update.reserved ∙ a.update.reserved };
-  leaf = record { leaf = b.leaf.leaf ∙ a.leaf.leaf; wanted = b.leaf.wanted ∙ a.leaf.wanted };
-  sweep = record { sweep = b.sweep.sweep ∙ a.sweep.sweep; swept = b.sweep.swept ∙ a.sweep.swept };
-  split = record {
-    splitting = b.split.splitting ∙ a.split.splitting;
-    mark = b.split.mark ∙ a.split.mark;
-    whole = b.split.whole ∙ a.split.whole;
-    copies = b.split.copies ∙ a.split.copies;
-    copied = b.split.copied ∙ a.split.copied;
-  };
-  flags = record { undone = b.flags.undone ∙ a.flags.undone; early = b.flags.early ∙ a.flags.early };
-  actors = record { absorbed = b.actors.absorbed ∙ a.actors.absorbed; forked = b.actors.forked ∙ a.actors.forked };
-  fresh = b.fresh ∙ a.fresh;
-  owes = b.owes ∙ a.owes;
-}
 
 pub since_stays : (first : View) (begun : ℕ) (op : NearestOp) (v w : View) (k : ℕ) → Others v w → Ready op v → Since first begun op v k → Since first begun op w k
 since_stays first begun op v w k o r s =

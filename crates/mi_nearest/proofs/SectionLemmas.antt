@@ -37,10 +37,10 @@ use Rattle.mi_nearest.specs.declared.nearest.NearestState.TheVariants.{Begin, Wa
 use Rattle.mi_nearest.specs.declared.order.Rank.{Rank}
 use Rattle.mi_nearest.specs.Nearing.{NearestWorkState, TakesNearest, first_rows, worst_of}
 use Rattle.mi_nearest.specs.Order.{IsRanked, leaves_at, rank_cmp}
-use Rattle.mi_nearest.specs.Querying.{HasOpened, HasRead, IsOpened, IsReading, OpensNext, Pinned, Ready, SameButPin, SiftsOn, StateIsReady, StopsBefore, Turned, dists_of, least_at, left_at, most, most_at, objects_at, pinned_cells, ranks_of, rows_of_leaf, since_at}
+use Rattle.mi_nearest.specs.Querying.{HasOpened, HasRead, IsOpened, IsReading, OpensNext, Ready, SiftsOn, StateIsReady, StopsBefore, Turned, dists_of, least_at, left_at, most, most_at, objects_at, ranks_of, rows_of_leaf, since_at}
 use Rattle.mi_nearest.specs.Taking.{takes_more}
 use Rattle.mi_nearest.specs.Walking.{HasNearest, KeepsFirst, OpensLeaf, StopsAt}
-use Rattle.mi_nearest.proofs.NextLemmas.{few_opened, goes, goes_least, goes_left, goes_most, goes_since, opened_keeps, parted, pinned_keeps, times}
+use Rattle.mi_nearest.proofs.NextLemmas.{few_opened, goes, goes_least, goes_left, goes_most, goes_since, opened_keeps, parted, times}
 use Rattle.mi_nearest.proofs.ScanLemmas.{goes_on, has_nearest, stops_here, walk_step}
 use Rattle.mi_nearest.proofs.WalkLemmas.{stops_later, sum_next}
 use Rattle.mi_rules.specs.Passing.{kth_distance, reached_objects}
@@ -55,7 +55,9 @@ use Rattle.mi_tree.proofs.SumLemmas.{taken_more}
 use Rattle.mi_world.specs.Boards.{Pins, Unpins}
 use Rattle.mi_world.specs.LeafKeys.{shown}
 use Rattle.mi_world.specs.Pages.{pinned}
-use Rattle.mi_world.specs.View.{View, SameOwn}
+use Rattle.mi_world.specs.Queries.{Pinned, pinned_cells}
+use Rattle.mi_world.specs.View.{View}
+use Rattle.mi_world.proofs.QueryLemmas.{pinned_keeps, walk_same}
 
 -- a query that stands so
 abbrev with_state : NearestOp → NearestState → Option Gathering → NearestOp
@@ -119,10 +121,6 @@ module _ (op : NearestOp) (v w : View) (state : op.state ≡ Begin) (ready : Rea
 
 pub reading : (op : NearestOp) (v : View) (opened root : ℕ) (at : Position) (walk : Walk) → op.state ≡ Walking opened root at walk → Ready op v → IsReading op opened root at walk v
 reading op v opened root at walk state ready = subst (λ s. StateIsReady s op v) state ready.state
-
--- what a visit keeps
-pub walk_same : (v w : View) → SameOwn v w → SameButPin v w
-walk_same v w s = record { update = s.work.update; leaf = s.work.leaf; sweep = s.work.apart.sweep; split = s.work.apart.split; flags = s.work.apart.flags; actors = s.work.apart.actors; fresh = s.fresh; owes = s.owes }
 
 module _ (op : NearestOp) (v w : View) (opened root : ℕ) (at : Position) (walk walk' : Walk) (answer : WalkTurn) (state : op.state ≡ Walking opened root at walk) (ready : Ready op v)
     (h : IsReading op opened root at walk v) (walked : Walked walk v answer walk' w) where

@@ -7,8 +7,8 @@ use Rattle.mi_base.specs.declared.records.Reply.{Reply}
 use Rattle.mi_base.specs.declared.records.Reply.TheVariants as reply
 use Rattle.mi_base.specs.declared.records.Row.{Row}
 use Rattle.mi_base.specs.declared.refusals.NoMemory.{NoMemory}
-use Rattle.mi_base.specs.Configuration.{IsWithinLimits, metric_space, space_of}
-use Rattle.mi_base.specs.History.{end_of, events_at}
+use Rattle.mi_base.specs.Configuration.{metric_space, space_of}
+use Rattle.mi_base.specs.History.{events_at}
 use Rattle.mi_base.specs.Permutations.{distances}
 use Rattle.mi_base.specs.Space.{MetricSpace}
 use Rattle.mi_blink.specs.declared.turns.Turn.{Turn}
@@ -36,12 +36,11 @@ use Rattle.mi_nearest.specs.Walking.{KeepsFirst, rows_in}
 use Rattle.mi_rules.specs.Spans.{is_near}
 use Rattle.mi_tree.specs.declared.answers.Look.{Look}
 use Rattle.mi_tree.specs.declared.outcomes.Leaf.{Leaf}
-use Rattle.mi_tree.specs.Growing.{Grows}
-use Rattle.mi_tree.specs.Legal.{LegalLog, cells_of}
 use Rattle.mi_world.specs.Boards.{Pins, Unpins}
 use Rattle.mi_world.specs.LeafKeys.{shown}
 use Rattle.mi_world.specs.Pages.{pinned}
-use Rattle.mi_world.specs.View.{View, Later, SameActors, SameFlags, SameLeaf, SameSplit, SameSweep, SameUpdate}
+use Rattle.mi_world.specs.Queries.{Pinned, SameButPin, pinned_cells}
+use Rattle.mi_world.specs.View.{View, Later}
 
 -- a query before its first section
 pub record Begun (op : NearestOp) (count : ℕ) (query : List ℤ) : Type 0 where
@@ -56,20 +55,9 @@ pub record SiftsOn (m : MetricSpace) (query : List ℤ) (old : NearestWorkState)
   pub joins : before ++ delta ≡ after
   pub takes : TakesNearest m query old steps delta new new_steps
 
--- the log at this position is pinned, is legal, and was seen
-pub record Pinned (at : Position) (v : View) : Type 0 where
-  pub pin : IsSome v.pin
-  pub at_is : at ≡ end_of (pinned v)
-  pub seen : Grows (pinned v) v.seen
-  pub limits : IsWithinLimits v.settings
-  pub legal : LegalLog v.settings (pinned v)
-
--- the query's distances to the pivots, the pinned leaves, and the rows of the objects of each
+-- the query's distances to the pivots, and the rows of the objects of a leaf at the pin
 abbrev pub dists_of : NearestOp → View → List ℕ
 dists_of op v = distances (space_of v.settings) op.query
-
-abbrev pub pinned_cells : View → List Leaf
-pinned_cells v = cells_of v.settings (pinned v)
 
 abbrev pub rows_of_leaf : NearestOp → View → Leaf → List Row
 rows_of_leaf op v = rows_in v.settings op.query (shown v.settings (pinned v))
@@ -235,17 +223,6 @@ Outcome old v turn.Held new w = ⊥
 Outcome old v (turn.Crowded leaf) new w = ⊥
 Outcome old v (turn.Done y) new w =
     (new.state ≡ Over) × (w.pin ≡ None) × Tells old.state y × IsRight new w y × MatchOption (reach w.seen y) (Unit {0}) (λ n. since_at old.state v ≤ n) × IsCheap new (most old v) w y
-
--- a query changes nothing of its actor's but the pin
-pub record SameButPin (v w : View) : Type 0 where
-  pub update : SameUpdate v w
-  pub leaf : SameLeaf v w
-  pub sweep : SameSweep v w
-  pub split : SameSplit v w
-  pub flags : SameFlags v w
-  pub actors : SameActors v w
-  pub fresh : w.fresh ≡ v.fresh
-  pub owes : w.owes ≡ v.owes
 
 -- what a section of a query makes of it and of its actor
 pub record Turned (old : NearestOp) (v : View) (answer : Turn) (new : NearestOp) (w : View) : Type 0 where

@@ -1,15 +1,13 @@
 -- Where a query goes on at a leaf, or has read all.
-use Rattle.std.proofs.Common.{◌≡◌, ℕ, suc, zero, ℤ, ◌+◌, ◌-◌, ◌*◌, ◌≤◌, List, [], ◌∷◌, ◌++◌, length, take, Bool, true, false, ◌||◌, nat_eq, Some, refl, sym, ap, ◌∙◌, subst, arith, append-nil}
-use Rattle.std.specs.Prelude.{slice_get, count_by}
+use Rattle.std.proofs.Common.{◌≡◌, ℕ, ◌+◌, ◌-◌, ◌*◌, ◌≤◌, List, [], ◌++◌, length, take, nat_eq, Some, refl, sym, ap, ◌∙◌, subst, arith, append-nil}
+use Rattle.std.specs.Prelude.{count_by}
 use Rattle.std.proofs.Math.Nat.{mul-le-mul_right}
 use Rattle.std.proofs.lemmas.Bool.{and_parts, eqb-true}
-use Rattle.std.proofs.lemmas.List.{length-map, take_all}
+use Rattle.std.proofs.lemmas.List.{take_all}
 use Rattle.std.proofs.lemmas.Option.{slice_get_within}
 use Rattle.mi_base.specs.declared.records.Position.{Position}
 use Rattle.mi_base.specs.Configuration.{metric_space}
 use Rattle.mi_base.specs.History.{events_at}
-use Rattle.mi_base.specs.Permutations.{distances}
-use Rattle.mi_base.specs.Space.{MetricSpace}
 use Rattle.mi_blink.specs.declared.walk.Walk.{Walk}
 use Rattle.mi_blink.specs.Descents.{IsRoot, longest}
 use Rattle.mi_blink.specs.Walking.{so_far}
@@ -22,30 +20,24 @@ use Rattle.mi_range.specs.declared.range.RangeOp.{RangeOp}
 use Rattle.mi_range.specs.declared.range.RangeState.{RangeState}
 use Rattle.mi_range.specs.declared.range.RangeState.TheVariants.{Begin, Walking, Ending, Over}
 use Rattle.mi_range.specs.Leaves.{AreOfPivots, IsOpened}
-use Rattle.mi_range.specs.Querying.{Gathered, HasRead, IsReading, OpensFrom, OpensNext, Pinned, StateIsReady, dists_of, left_at, offered_of, pinned_cells, since_at}
+use Rattle.mi_range.specs.Querying.{Gathered, HasRead, IsReading, OpensFrom, OpensNext, StateIsReady, dists_of, left_at, offered_of, since_at}
 use Rattle.mi_range.specs.Ranging.{RangeWorkState}
 use Rattle.mi_range.proofs.PassedLemmas.{all_passed, passed}
 use Rattle.mi_rules.specs.Passing.{passes}
-use Rattle.mi_tree.specs.declared.outcomes.Leaf.{Leaf}
 use Rattle.mi_tree.specs.Catalog.{CatalogState}
-use Rattle.mi_tree.specs.Cells.{same_cell}
-use Rattle.mi_tree.specs.Counting.{has_leaf}
-use Rattle.mi_tree.proofs.LeafLemmas.{same_self}
 use Rattle.mi_tree.proofs.LimitLemmas.{cells_fit}
 use Rattle.mi_world.specs.LeafKeys.{shown}
 use Rattle.mi_world.specs.Pages.{IsInLeaf, pinned}
+use Rattle.mi_world.specs.Queries.{Pinned, pinned_cells}
 use Rattle.mi_world.specs.View.{View}
+use Rattle.mi_world.proofs.QueryLemmas.{leaf_there, long}
 
 pub times : (a b k : ℕ) → a ≡ b + 1 → a * k ≡ b * k + k
 times a b k h = rw h (omega arith)
 
--- as many distances as there are pivots
-pub long : (op : RangeOp) (w : View) → length (dists_of op w) ≡ length w.settings.pivots
-long op w = length-map w.settings.pivots (λ (x : List ℤ). (metric_space w.settings).d op.query x)
-
 -- the leaves are what the rules want of them
 pub all_fit : (op : RangeOp) (at : Position) (w : View) → Pinned at w → AreOfPivots (length (dists_of op w)) w.settings.levels (pinned_cells w)
-all_fit op at w holds = subst (λ (n : ℕ). AreOfPivots n w.settings.levels (pinned_cells w)) (sym (long op w)) (cells_fit w.settings holds.limits (pinned w) holds.legal)
+all_fit op at w holds = subst (λ (n : ℕ). AreOfPivots n w.settings.levels (pinned_cells w)) (sym (long op.query w)) (cells_fit w.settings holds.limits (pinned w) holds.legal)
 
 -- what the pinned catalog and the work's own numbers say of the leaf that is opened next
 pub opens_here : (op : RangeOp) (w : View) (dq : List ℕ) (radius : ℕ) (k : CatalogState) (from cells root : ℕ) (at : Position) (s : RangeState) → dq ≡ dists_of op w → radius ≡ op.radius
@@ -55,20 +47,6 @@ opens_here op w dq radius k from cells root at s dists same catalog h = rw (dist
 pub fit_here : (op : RangeOp) (at : Position) (w : View) (dq : List ℕ) (k : CatalogState) → Pinned at w → dq ≡ dists_of op w
     → k ≡ record { pivots = length w.settings.pivots; levels = w.settings.levels; leaves = pinned_cells w } → AreOfPivots (length dq) k.levels k.leaves
 fit_here op at w dq k holds dists catalog = rw (dists, catalog) (all_fit op at w holds)
-
--- the distances that were measured are the query's
-pub measured : (op : RangeOp) (v w : View) (m : MetricSpace) (pivots : List (List ℤ)) (dq : List ℕ) → w.settings ≡ v.settings → m ≡ metric_space v.settings → pivots ≡ v.settings.pivots
-    → dq ≡ distances (record { metric = m; pivots = pivots }) op.query → dq ≡ dists_of op w
-measured op v w m pivots dq settings space same is = is ∙ rw (space, same, settings) refl
-
-leaf_there : (ls : List Leaf) (i : ℕ) (l : Leaf) → slice_get ls i ≡ Some l → has_leaf l.prefix ls ≡ true
-leaf_there [] i l at = cc
-leaf_there (m ∷ ls) zero l at =
-    let same : l ≡ m = cc in
-    ap (λ (x : Leaf). same_cell l.prefix x.prefix || has_leaf l.prefix ls) (sym same) ∙ ap (λ b. b || has_leaf l.prefix ls) (same_self l.prefix)
-leaf_there (m ∷ ls) (suc i) l at =
-    let P : Bool → Type 0 = λ b. (b || has_leaf l.prefix ls) ≡ true in
-    elim (same_cell l.prefix m.prefix) as P [ true ↦ refl | false ↦ leaf_there ls i l at ]
 
 module _ (op : RangeOp) (from cells root : ℕ) (at : Position) (w : View) (holds : Pinned at w) (is_root : IsRoot w root)
     (within : from ≤ length (pinned_cells w)) (counted : cells ≡ count_by (passes (dists_of op w) op.radius) (take from (pinned_cells w)))
@@ -81,7 +59,7 @@ module _ (op : RangeOp) (from cells root : ℕ) (at : Position) (w : View) (hold
         let spans = sym (o.has key) ∙ h in
         eqb-true (parts_of key).cluster (cluster_of (length (dists_of op w)) w.settings.levels o.leaf.prefix)
         (and_parts (nat_eq (parts_of key).cluster (cluster_of (length (dists_of op w)) w.settings.levels o.leaf.prefix)) _ spans).0
-        ∙ ap (λ (k : ℕ). cluster_of k w.settings.levels o.leaf.prefix) (long op w);
+        ∙ ap (λ (k : ℕ). cluster_of k w.settings.levels o.leaf.prefix) (long op.query w);
   }
 
   reads : (place : ℕ) (walk : Walk) → OpensFrom op w from cells root at (Walking place cells root at walk) → IsReading op place cells root at walk w

@@ -1,18 +1,18 @@
 -- Queries while others act, and how many sections they have.
 use Rattle.std.proofs.Common.{◌≡◌, ◌+◌, ◌-◌, ◌*◌, ◌<◌, ◌≤◌, ◌^◌, length, arith}
 use Rattle.std.proofs.Math.Nat.{mul-le-mul_right}
-use Rattle.mi_base.specs.declared.records.Position.{Position}
 use Rattle.mi_blink.specs.Descents.{longest}
 use Rattle.mi_blink.proofs.DescentLemmas.{descent_longest, root_keeps}
 use Rattle.mi_blink.proofs.OthersLemmas.{so_far_stays, walk_stays}
 use Rattle.mi_range.specs.declared.range.RangeOp.{RangeOp}
 use Rattle.mi_range.specs.declared.range.RangeState.{RangeState}
 use Rattle.mi_range.specs.declared.range.RangeState.TheVariants.{Begin, Walking, Ending, Over}
-use Rattle.mi_range.specs.Querying.{Pinned, Ready, StateIsReady, left, left_at, pinned_cells}
-use Rattle.mi_tree.proofs.GrowingLemmas.{grows_on}
+use Rattle.mi_range.specs.Querying.{Ready, StateIsReady, left, left_at}
 use Rattle.mi_tree.proofs.LimitLemmas.{few_cells}
 use Rattle.mi_world.specs.Pages.{pinned}
+use Rattle.mi_world.specs.Queries.{pinned_cells}
 use Rattle.mi_world.specs.View.{Others, View}
+use Rattle.mi_world.proofs.QueryLemmas.{pinned_keeps}
 
 module _ (v w : View) (o : Others v w) where
   same_settings : w.settings ≡ v.settings
@@ -21,19 +21,10 @@ module _ (v w : View) (o : Others v w) where
   same_pin : w.pin ≡ v.pin
   same_pin = o.same.work.apart.pin
 
-  pinned_stays : (at : Position) → Pinned at v → Pinned at w
-  pinned_stays at h = record {
-    pin = rw same_pin h.pin;
-    at_is = rw same_pin h.at_is;
-    seen = grows_on (pinned w) v.seen w.seen (rw same_pin h.seen) o.later.grows;
-    limits = rw same_settings h.limits;
-    legal = rw (same_settings, same_pin) h.legal;
-  }
-
   state_stays : (s : RangeState) (op : RangeOp) → StateIsReady s op v → StateIsReady s op w
   state_stays Begin op h = rw same_pin h
   state_stays (Walking place cells root at walk) op h = record {
-    holds = pinned_stays at h.holds;
+    holds = pinned_keeps at v w same_settings same_pin o.later.grows h.holds;
     root_is = root_keeps v w root o.later h.root_is;
     walk_ready = walk_stays walk v w o h.walk_ready;
     opened = rw (same_settings, same_pin) h.opened;
@@ -43,7 +34,7 @@ module _ (v w : View) (o : Others v w) where
     gathered = rw (so_far_stays walk v w o h.walk_ready, same_settings, same_pin) h.gathered;
   }
   state_stays (Ending cells at) op h = record {
-    holds = pinned_stays at h.holds;
+    holds = pinned_keeps at v w same_settings same_pin o.later.grows h.holds;
     counted = rw (same_settings, same_pin) h.counted;
     kept = h.kept;
     work_is = h.work_is;

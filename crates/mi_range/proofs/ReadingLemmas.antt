@@ -23,7 +23,7 @@ use Rattle.mi_key.specs.Ranges.{is_within}
 use Rattle.mi_key.specs.Shown.{Shown, below, offerings, shown_cmp, within}
 use Rattle.mi_range.specs.declared.range.RangeOp.{RangeOp}
 use Rattle.mi_range.specs.Opening.{leaf_offered, leaves_offered}
-use Rattle.mi_range.specs.Querying.{Gathered, Pinned, SiftsOn, first_of, offered_of, pinned_cells}
+use Rattle.mi_range.specs.Querying.{Gathered, SiftsOn, first_of, offered_of}
 use Rattle.mi_range.specs.Ranging.{RangeWorkState, TakesRange, compared_count}
 use Rattle.mi_range.specs.Taking.{takes_more}
 use Rattle.mi_range.proofs.NextLemmas.{times}
@@ -35,6 +35,7 @@ use Rattle.mi_tree.proofs.BirthLemmas.{born_live}
 use Rattle.mi_tree.proofs.LimitLemmas.{few_cells}
 use Rattle.mi_world.specs.LeafKeys.{shown, shown_as}
 use Rattle.mi_world.specs.Pages.{pinned}
+use Rattle.mi_world.specs.Queries.{Pinned, pinned_cells}
 use Rattle.mi_world.specs.View.{View}
 
 -- of each leaf no more is offered than is shown

@@ -31,9 +31,9 @@ use Rattle.mi_range.specs.declared.range.RangeState.{RangeState}
 use Rattle.mi_range.specs.declared.range.RangeState.TheVariants.{Begin, Walking, Ending, Over}
 use Rattle.mi_range.specs.Leaves.{IsOpened}
 use Rattle.mi_range.specs.Opening.{HasScan}
-use Rattle.mi_range.specs.Querying.{Gathered, HasRead, IsReading, OpensFrom, Pinned, Ready, SameButPin, SiftsOn, StateIsReady, Turned, computed, dists_of, first_of, left_at, offered_of, pinned_cells, since_at}
+use Rattle.mi_range.specs.Querying.{Gathered, HasRead, IsReading, OpensFrom, Ready, SiftsOn, StateIsReady, Turned, computed, dists_of, first_of, left_at, offered_of, since_at}
 use Rattle.mi_range.specs.Ranging.{RangeWorkState, compared_count}
-use Rattle.mi_range.proofs.NextLemmas.{goes, goes_left, goes_since, long, times}
+use Rattle.mi_range.proofs.NextLemmas.{goes, goes_left, goes_since, times}
 use Rattle.mi_range.proofs.ReadingLemmas.{few_offered, gathers, gathers_none, roomy, ticked}
 use Rattle.mi_range.proofs.ScanLemmas.{has_scan, leaves_more, span_offered}
 use Rattle.mi_rules.specs.Passing.{passes}
@@ -47,7 +47,9 @@ use Rattle.mi_tree.proofs.SumLemmas.{counted_more}
 use Rattle.mi_world.specs.Boards.{Pins, Unpins}
 use Rattle.mi_world.specs.LeafKeys.{shown}
 use Rattle.mi_world.specs.Pages.{pinned}
-use Rattle.mi_world.specs.View.{View, SameOwn}
+use Rattle.mi_world.specs.Queries.{Pinned, pinned_cells}
+use Rattle.mi_world.specs.View.{View}
+use Rattle.mi_world.proofs.QueryLemmas.{long, pinned_keeps, walk_same}
 
 -- a query that stands so
 abbrev with_state : RangeOp → RangeState → Option RangeWorkState → RangeOp
@@ -99,10 +101,6 @@ module _ (op : RangeOp) (v w : View) (state : op.state ≡ Begin) (ready : Ready
 
 -- a visit
 
--- what a visit keeps
-walk_same : (v w : View) → SameOwn v w → SameButPin v w
-walk_same v w s = record { update = s.work.update; leaf = s.work.leaf; sweep = s.work.apart.sweep; split = s.work.apart.split; flags = s.work.apart.flags; actors = s.work.apart.actors; fresh = s.fresh; owes = s.owes }
-
 module _ (op : RangeOp) (v w : View) (place cells root : ℕ) (at : Position) (walk walk' : Walk) (answer : WalkTurn) (state : op.state ≡ Walking place cells root at walk) (ready : Ready op v)
     (walked : Walked walk v answer walk' w) where
   h : IsReading op place cells root at walk v
@@ -115,13 +113,7 @@ module _ (op : RangeOp) (v w : View) (place cells root : ℕ) (at : Position) (w
   same_pin = walked.visits.same.work.apart.pin
 
   pub still_pinned : Pinned at w
-  still_pinned = record {
-    pin = rw same_pin h.holds.pin;
-    at_is = rw same_pin h.holds.at_is;
-    seen = grows_on (pinned w) v.seen w.seen (rw same_pin h.holds.seen) walked.visits.later.grows;
-    limits = rw same_settings h.holds.limits;
-    legal = rw (same_settings, same_pin) h.holds.legal;
-  }
+  still_pinned = pinned_keeps at v w same_settings same_pin walked.visits.later.grows h.holds
 
   same_dists : dists_of op w ≡ dists_of op v
   same_dists = rw same_settings refl
@@ -174,7 +166,7 @@ module _ (op : RangeOp) (v w : View) (place cells root : ℕ) (at : Position) (w
     few = subst (λ (os : List Offering). length (os ++ so_far_after answer walk' w) < 2 ^ 60) front_same (few_offered op at place answer walk' w still_pinned)
 
     dims : length (dists_of op v) ≤ 32
-    dims = omega (arith, long op v, h.holds.limits.few_pivots)
+    dims = omega (arith, long op.query v, h.holds.limits.few_pivots)
 
     after : Gathered (metric_space w.settings) op.query (dists_of op w) op.radius (offered_of op w (take place (pinned_cells w)) ++ so_far_after answer walk' w) new
     after =

@@ -1,12 +1,12 @@
 -- A range query between its sections, and what a section of it does.
-use Rattle.std.specs.Prelude.{◌≡◌, ◌+◌, ◌-◌, ◌*◌, ◌<◌, ◌≤◌, ◌^◌, ◌⊎◌, ◌++◌, [], ℕ, ℤ, List, Option, Some, None, MatchOption, IsTrue, IsSome, Result, Ok, Err, length, count_by, take}
+use Rattle.std.specs.Prelude.{◌≡◌, ◌+◌, ◌-◌, ◌*◌, ◌<◌, ◌≤◌, ◌^◌, ◌⊎◌, ◌++◌, [], ℕ, ℤ, List, Option, Some, None, MatchOption, IsTrue, Result, Ok, Err, length, count_by, take}
 use Rattle.mi_base.specs.declared.records.Op.TheVariants.{Range}
 use Rattle.mi_base.specs.declared.records.Position.{Position}
 use Rattle.mi_base.specs.declared.records.Reply.{Reply}
 use Rattle.mi_base.specs.declared.records.Reply.TheVariants as reply
 use Rattle.mi_base.specs.declared.refusals.NoMemory.{NoMemory}
-use Rattle.mi_base.specs.Configuration.{IsWithinLimits, metric_space, space_of}
-use Rattle.mi_base.specs.History.{end_of, events_at}
+use Rattle.mi_base.specs.Configuration.{metric_space, space_of}
+use Rattle.mi_base.specs.History.{events_at}
 use Rattle.mi_base.specs.Permutations.{distances}
 use Rattle.mi_base.specs.Space.{MetricSpace}
 use Rattle.mi_blink.specs.declared.turns.Turn.{Turn}
@@ -29,12 +29,11 @@ use Rattle.mi_range.specs.Ranging.{RangeWorkState, TakesRange, compared_count}
 use Rattle.mi_rules.specs.Passing.{opened_count, passes}
 use Rattle.mi_tree.specs.declared.answers.Look.{Look}
 use Rattle.mi_tree.specs.declared.outcomes.Leaf.{Leaf}
-use Rattle.mi_tree.specs.Growing.{Grows}
-use Rattle.mi_tree.specs.Legal.{LegalLog, cells_of}
 use Rattle.mi_world.specs.Boards.{Pins, Unpins}
 use Rattle.mi_world.specs.LeafKeys.{shown}
 use Rattle.mi_world.specs.Pages.{pinned}
-use Rattle.mi_world.specs.View.{View, Later, SameActors, SameFlags, SameLeaf, SameSplit, SameSweep, SameUpdate}
+use Rattle.mi_world.specs.Queries.{Pinned, SameButPin, pinned_cells}
+use Rattle.mi_world.specs.View.{View, Later}
 
 -- a query before its first section
 pub record Begun (op : RangeOp) (radius : ℕ) (query : List ℤ) : Type 0 where
@@ -58,20 +57,9 @@ pub record SiftsOn (m : MetricSpace) (query : List ℤ) (old : RangeWorkState) (
   pub joins : before ++ delta ≡ after
   pub takes : TakesRange m query old steps delta new new_steps
 
--- the log at this position is pinned, is legal, and was seen
-pub record Pinned (at : Position) (v : View) : Type 0 where
-  pub pin : IsSome v.pin
-  pub at_is : at ≡ end_of (pinned v)
-  pub seen : Grows (pinned v) v.seen
-  pub limits : IsWithinLimits v.settings
-  pub legal : LegalLog v.settings (pinned v)
-
--- the query's distances to the pivots, the pinned leaves, and what is offered of some of them
+-- the query's distances to the pivots, and what is offered of some leaves at the pin
 abbrev pub dists_of : RangeOp → View → List ℕ
 dists_of op v = distances (space_of v.settings) op.query
-
-abbrev pub pinned_cells : View → List Leaf
-pinned_cells v = cells_of v.settings (pinned v)
 
 abbrev pub offered_of : RangeOp → View → List Leaf → List Offering
 offered_of op v leaves = leaves_offered (dists_of op v) op.radius v.settings.levels (shown v.settings (pinned v)) leaves
@@ -186,17 +174,6 @@ Outcome old v turn.Held new w = ⊥
 Outcome old v (turn.Crowded leaf) new w = ⊥
 Outcome old v (turn.Done y) new w =
     (new.state ≡ Over) × (w.pin ≡ None) × Tells old.state old.work y × IsRight new w y × MatchOption (reach w.seen y) (Unit {0}) (λ n. since_at old.state v ≤ n)
-
--- a query changes nothing of its actor's but the pin
-pub record SameButPin (v w : View) : Type 0 where
-  pub update : SameUpdate v w
-  pub leaf : SameLeaf v w
-  pub sweep : SameSweep v w
-  pub split : SameSplit v w
-  pub flags : SameFlags v w
-  pub actors : SameActors v w
-  pub fresh : w.fresh ≡ v.fresh
-  pub owes : w.owes ≡ v.owes
 
 -- what a section of a query makes of it and of its actor
 pub record Turned (old : RangeOp) (v : View) (answer : Turn) (new : RangeOp) (w : View) : Type 0 where
