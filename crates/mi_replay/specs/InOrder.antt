@@ -146,7 +146,7 @@ pub record SplitterInOrder (a : ℕ) (turns : List Turn) : Type 0 where
   pub in_turn : InTurn a false turns
   pub begins : AllByRecursion (BeginsWork a) turns
 
--- a split is given up for pages only where all are allotted at the end, and else for memory, of which the outcome tells
+-- a split of the splitter is given up for pages only where all are allotted at the end, and else for memory, of which the outcome tells
 abbrev pub GivesUpRightly : Configuration → Outcome → Option Event → Type 0
 GivesUpRightly c o (Some (give_up true)) = o.allotted ≡ c.pages
 GivesUpRightly c o (Some (give_up false)) = o.short ≡ true
@@ -182,6 +182,6 @@ pub record InOrder (c : Configuration) (scripts : List (List Op)) (schedule : Li
   pub by_splitter : AllBy (length scripts) settling
   pub outcome : IsOutcomeIn c o last
   pub splitter : SplitterInOrder (length scripts) (turns ++ settling)
-  pub given_up : AllByRecursion (λ u. GivesUpRightly c o u.event) (turns ++ settling)
+  pub given_up : AllByRecursion (λ u. u.actor ≡ length scripts → GivesUpRightly c o u.event) (turns ++ settling)
   pub count : length o.replies ≡ length scripts
   pub sessions : (k : ℕ) (script : List Op) (ys : List Reply) → slice_get scripts k ≡ Some script → slice_get o.replies k ≡ Some ys → SessionInOrder c (turns ++ settling) k script ys

@@ -1,3 +1,9 @@
-pub mod InOrder
-pub mod Turns
 pub mod Alone
+pub mod InOrder
+pub mod Moving
+pub mod Outcomes
+pub mod Seats
+pub mod Settling
+pub mod Splitters
+pub mod Tables
+pub mod Turns

@@ -4,6 +4,8 @@
 
 mod alone;
 mod laws;
+mod seats;
+mod splitters;
 
 pub use alone::run_job;
 pub use laws::{

@@ -22,13 +22,13 @@ module _ (c d : Core) (a : ℕ) (k : Kept (state_of c)) (g : IsGoing c a) (page 
   here = page_is (state_of c) page linked
 
   pub answer_copy : (r : Put) → made.CopiesIn (state_of c) a page r (state_of d) → Answered c d a (λ v w. CopiesIn v w page r)
-  answer_copy (Down p) x = answered c d a k g x.0 (copies_down page n p (state_of c) k a (actor_in (state_of c) a) _ (there c a g.known) g.going x.0.can (now c d a k g x.0) here x.1)
-  answer_copy (Right p) x = answered c d a k g x.0 (copies_right page n p (state_of c) k a (actor_in (state_of c) a) _ (there c a g.known) g.going x.0.can (now c d a k g x.0) here x.1)
-  answer_copy PageFull x = answered c d a k g x.0 (copies_full page n (state_of c) k a (actor_in (state_of c) a) _ (there c a g.known) g.going x.0.can (now c d a k g x.0) here x.1 x.2)
-  answer_copy Done x = answered c d a k g x.1 (copies_done page n x.0 (state_of c) k a (actor_in (state_of c) a) _ (there c a g.known) g.going x.1.can (now c d a k g x.1))
+  answer_copy (Down p) x = answered c d a k g x.0 tt (copies_down page n p (state_of c) k a (actor_in (state_of c) a) _ (there c a g.known) g.going x.0.can (now c d a k g x.0) here x.1)
+  answer_copy (Right p) x = answered c d a k g x.0 tt (copies_right page n p (state_of c) k a (actor_in (state_of c) a) _ (there c a g.known) g.going x.0.can (now c d a k g x.0) here x.1)
+  answer_copy PageFull x = answered c d a k g x.0 tt (copies_full page n (state_of c) k a (actor_in (state_of c) a) _ (there c a g.known) g.going x.0.can (now c d a k g x.0) here x.1 x.2)
+  answer_copy Done x = answered c d a k g x.1 tt (copies_done page n x.0 (state_of c) k a (actor_in (state_of c) a) _ (there c a g.known) g.going x.1.can (now c d a k g x.1))
 
   pub answer_uncopy : (r : Put) → made.Uncopies (state_of c) a page r (state_of d) → Answered c d a (λ v w. Uncopies v w page r)
-  answer_uncopy (Down p) x = answered c d a k g x.0 (uncopies_down page n p (state_of c) k a (actor_in (state_of c) a) _ (there c a g.known) g.going x.0.can (now c d a k g x.0) here x.1)
-  answer_uncopy (Right p) x = answered c d a k g x.0 (uncopies_right page n p (state_of c) k a (actor_in (state_of c) a) _ (there c a g.known) g.going x.0.can (now c d a k g x.0) here x.1)
+  answer_uncopy (Down p) x = answered c d a k g x.0 tt (uncopies_down page n p (state_of c) k a (actor_in (state_of c) a) _ (there c a g.known) g.going x.0.can (now c d a k g x.0) here x.1)
+  answer_uncopy (Right p) x = answered c d a k g x.0 tt (uncopies_right page n p (state_of c) k a (actor_in (state_of c) a) _ (there c a g.known) g.going x.0.can (now c d a k g x.0) here x.1)
   answer_uncopy PageFull x = absurd x
-  answer_uncopy Done x = answered c d a k g x.1 (uncopies_done page n x.0 _ (state_of c) k a (actor_in (state_of c) a) _ (there c a g.known) g.going x.1.can (now c d a k g x.1) refl)
+  answer_uncopy Done x = answered c d a k g x.1 tt (uncopies_done page n x.0 _ (state_of c) k a (actor_in (state_of c) a) _ (there c a g.known) g.going x.1.can (now c d a k g x.1) refl)

@@ -59,7 +59,7 @@ module _ (c d : Core) (a : ℕ) (k : Kept (state_of c)) (g : IsGoing c a) (page 
   here = page_is (state_of c) page linked
 
   pub answer_visit : (range : Interval) (r : Visit) → made.Visits (state_of c) a page range r (state_of d) → Answered c d a (λ v w. Visits v w page range r)
-  answer_visit range r x = answered c d a k g x.does ((visits_page page n range r) (state_of c) k a (actor_in (state_of c) a) _ (there c a g.known) g.going x.does.can (now c d a k g x.does) here x.answer)
+  answer_visit range r x = answered c d a k g x.does tt ((visits_page page n range r) (state_of c) k a (actor_in (state_of c) a) _ (there c a g.known) g.going x.does.can (now c d a k g x.does) here x.answer)
 
   -- what was offered is what the trait tells
   pub visit_offers : (range : Interval) (r : Visit) → made.Visits (state_of c) a page range r (state_of d) → IsSome (view_in (state_of c) a).pin → IsInLeaf (view_in (state_of c) a) range
@@ -74,35 +74,35 @@ module _ (c d : Core) (a : ℕ) (k : Kept (state_of c)) (g : IsGoing c a) (page 
   pub answer_trim : (r : Visit) → made.Trims (state_of c) a page r (state_of d) → Answered c d a (λ v w. Trims v w page r)
   answer_trim (Down p) x = absurd x
   answer_trim (Right p) x = absurd x
-  answer_trim (Read next) x = answered c d a k g x.0 ((trims_on page n next) (state_of c) k a (actor_in (state_of c) a) _ (there c a g.known) g.going x.0.can (now c d a k g x.0) x.1)
+  answer_trim (Read next) x = answered c d a k g x.0 tt ((trims_on page n next) (state_of c) k a (actor_in (state_of c) a) _ (there c a g.known) g.going x.0.can (now c d a k g x.0) x.1)
 
   module _ (op id : ℕ) (vector : List ℤ) (dists : List ℕ) (may : MayInsert (view_in (state_of c) a) id vector dists) where
     pub answer_insert : (r : Commit) → made.CommitsInsert (state_of c) a page op id vector dists r (state_of d) → Answered c d a (λ v w. CommitsInsert v w page op id vector dists r)
-    answer_insert (commit.Down p) x = answered c d a k g x.0 ((inserts_down page op id n vector dists p) (state_of c) k a (actor_in (state_of c) a) _ (there c a g.known) g.going x.0.can (now c d a k g x.0) here x.1)
-    answer_insert (commit.Right p) x = answered c d a k g x.0 ((inserts_right page op id n vector dists p) (state_of c) k a (actor_in (state_of c) a) _ (there c a g.known) g.going x.0.can (now c d a k g x.0) here x.1)
+    answer_insert (commit.Down p) x = answered c d a k g x.0 tt ((inserts_down page op id n vector dists p) (state_of c) k a (actor_in (state_of c) a) _ (there c a g.known) g.going x.0.can (now c d a k g x.0) here x.1)
+    answer_insert (commit.Right p) x = answered c d a k g x.0 tt ((inserts_right page op id n vector dists p) (state_of c) k a (actor_in (state_of c) a) _ (there c a g.known) g.going x.0.can (now c d a k g x.0) here x.1)
     answer_insert (commit.Full limit) x =
-        answered c d a k g x.1.0 (subst (λ l. CommitsInsert (view_of (solo_of c a)) (after_view c d a k g x.1.0) page op id vector dists (commit.Full l)) (sym x.1.1)
+        answered c d a k g x.1.0 tt (subst (λ l. CommitsInsert (view_of (solo_of c a)) (after_view c d a k g x.1.0) page op id vector dists (commit.Full l)) (sym x.1.1)
         ((inserts_full page op id n vector dists) (state_of c) k a (actor_in (state_of c) a) _ (there c a g.known) g.going x.1.0.can (now c d a k g x.1.0) here x.0))
-    answer_insert commit.Crowded x = answered c d a k g x.1.0 ((inserts_crowded page op id n vector dists) (state_of c) k a (actor_in (state_of c) a) _ (there c a g.known) g.going x.1.0.can (now c d a k g x.1.0) here may x.0 x.1.1)
-    answer_insert commit.PageFull x = answered c d a k g x.1.0 ((inserts_page_full page op id n vector dists) (state_of c) k a (actor_in (state_of c) a) _ (there c a g.known) g.going x.1.0.can (now c d a k g x.1.0) here may x.0 x.1.1 x.1.2)
+    answer_insert commit.Crowded x = answered c d a k g x.1.0 tt ((inserts_crowded page op id n vector dists) (state_of c) k a (actor_in (state_of c) a) _ (there c a g.known) g.going x.1.0.can (now c d a k g x.1.0) here may x.0 x.1.1)
+    answer_insert commit.PageFull x = answered c d a k g x.1.0 tt ((inserts_page_full page op id n vector dists) (state_of c) k a (actor_in (state_of c) a) _ (there c a g.known) g.going x.1.0.can (now c d a k g x.1.0) here may x.0 x.1.1 x.1.2)
     answer_insert (commit.Done number) x =
         let V : View = view_of (solo_of c a) in
         let W : View = after_view c d a k g x.1.1 in
         let e : Entry = x.1.0 in
-        answered c d a k g x.1.1 (subst (λ b. CommitsInsert V W page op id vector dists (commit.Done b)) x.1.4
+        answered c d a k g x.1.1 tt (subst (λ b. CommitsInsert V W page op id vector dists (commit.Done b)) x.1.4
         (subst (λ ds. CommitsInsert V W page op id vector ds (commit.Done e.birth)) x.1.3
         (subst (λ xs. CommitsInsert V W page op id xs e.dists.items (commit.Done e.birth)) x.1.2
         (inserts_done op id page n _ e (state_of c) k a (actor_in (state_of c) a) _ (there c a g.known) g.going x.1.1.can (now c d a k g x.1.1)))))
 
   module _ (op id : ℕ) where
     pub answer_delete : (r : Commit) → deleting.CommitsDelete (state_of c) a page op id r (state_of d) → Answered c d a (λ v w. CommitsDelete v w page op id r)
-    answer_delete (commit.Down p) x = answered c d a k g x.0 ((deletes_down page op id n p) (state_of c) k a (actor_in (state_of c) a) _ (there c a g.known) g.going x.0.can (now c d a k g x.0) here x.1)
-    answer_delete (commit.Right p) x = answered c d a k g x.0 ((deletes_right page op id n p) (state_of c) k a (actor_in (state_of c) a) _ (there c a g.known) g.going x.0.can (now c d a k g x.0) here x.1)
+    answer_delete (commit.Down p) x = answered c d a k g x.0 tt ((deletes_down page op id n p) (state_of c) k a (actor_in (state_of c) a) _ (there c a g.known) g.going x.0.can (now c d a k g x.0) here x.1)
+    answer_delete (commit.Right p) x = answered c d a k g x.0 tt ((deletes_right page op id n p) (state_of c) k a (actor_in (state_of c) a) _ (there c a g.known) g.going x.0.can (now c d a k g x.0) here x.1)
     answer_delete (commit.Full limit) x =
-        answered c d a k g x.1.0 (subst (λ l. CommitsDelete (view_of (solo_of c a)) (after_view c d a k g x.1.0) page op id (commit.Full l)) (sym x.1.1)
+        answered c d a k g x.1.0 tt (subst (λ l. CommitsDelete (view_of (solo_of c a)) (after_view c d a k g x.1.0) page op id (commit.Full l)) (sym x.1.1)
         ((deletes_full page op id n) (state_of c) k a (actor_in (state_of c) a) _ (there c a g.known) g.going x.1.0.can (now c d a k g x.1.0) here x.0))
     answer_delete commit.Crowded x = absurd x.1
     answer_delete commit.PageFull x = absurd x.1
     answer_delete (commit.Done number) x =
-        answered c d a k g x.1.0 (subst (λ b. CommitsDelete (view_of (solo_of c a)) (after_view c d a k g x.1.0) page op id (commit.Done b)) (sym x.1.1)
+        answered c d a k g x.1.0 tt (subst (λ b. CommitsDelete (view_of (solo_of c a)) (after_view c d a k g x.1.0) page op id (commit.Done b)) (sym x.1.1)
         ((deletes_done op id page n _ _) (state_of c) k a (actor_in (state_of c) a) _ (there c a g.known) g.going x.1.0.can (now c d a k g x.1.0)))

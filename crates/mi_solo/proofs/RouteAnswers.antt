@@ -21,8 +21,8 @@ use Rattle.mi_solo.proofs.SoloLemmas.{Answered, after_view, answered, now, solo_
 
 module _ (c d : Core) (a : ℕ) (k : Kept (state_of c)) (g : IsGoing c a) where
   pub answer_grow : (level key child : ℕ) (r : Bool) → GrowsRoot (state_of c) a level key child r (state_of d) → Answered c d a (λ v w. Grew v w level child r)
-  answer_grow level key child true x = answered c d a k g x (roots_grow level key child (state_of c) k a (actor_in (state_of c) a) _ (there c a g.known) g.going x.can (now c d a k g x))
-  answer_grow level key child false x = answered c d a k g x.0 (roots_stay level child (state_of c) k a (actor_in (state_of c) a) _ (there c a g.known) g.going x.0.can (now c d a k g x.0))
+  answer_grow level key child true x = answered c d a k g x tt (roots_grow level key child (state_of c) k a (actor_in (state_of c) a) _ (there c a g.known) g.going x.can (now c d a k g x))
+  answer_grow level key child false x = answered c d a k g x.0 tt (roots_stay level child (state_of c) k a (actor_in (state_of c) a) _ (there c a g.known) g.going x.0.can (now c d a k g x.0))
 
   module _ (page : ℕ) (linked : IsTrue (is_linked (state_of c) page)) where
     abbrev n : Node
@@ -32,18 +32,18 @@ module _ (c d : Core) (a : ℕ) (k : Kept (state_of c)) (g : IsGoing c a) where
     here = page_is (state_of c) page linked
 
     pub answer_post : (level key child : ℕ) (r : Put) → PostsRoute (state_of c) a page level key child r (state_of d) → Answered c d a (λ v w. Posts v w page level key child r)
-    answer_post level key child (Down p) x = answered c d a k g x.0 (posts_down page n level key child p (state_of c) k a (actor_in (state_of c) a) _ (there c a g.known) g.going x.0.can (now c d a k g x.0) here x.1)
-    answer_post level key child (Right p) x = answered c d a k g x.0 (posts_right page n level key child p (state_of c) k a (actor_in (state_of c) a) _ (there c a g.known) g.going x.0.can (now c d a k g x.0) here x.1)
-    answer_post level key child PageFull x = answered c d a k g x.0 (posts_full page n level key child (state_of c) k a (actor_in (state_of c) a) _ (there c a g.known) g.going x.0.can (now c d a k g x.0) here x.1 x.2)
-    answer_post level key child Done x = answered c d a k g x.0 (posts_done page n level key child (state_of c) k a (actor_in (state_of c) a) _ (there c a g.known) g.going x.0.can (now c d a k g x.0) x.1.level)
+    answer_post level key child (Down p) x = answered c d a k g x.0 tt (posts_down page n level key child p (state_of c) k a (actor_in (state_of c) a) _ (there c a g.known) g.going x.0.can (now c d a k g x.0) here x.1)
+    answer_post level key child (Right p) x = answered c d a k g x.0 tt (posts_right page n level key child p (state_of c) k a (actor_in (state_of c) a) _ (there c a g.known) g.going x.0.can (now c d a k g x.0) here x.1)
+    answer_post level key child PageFull x = answered c d a k g x.0 tt (posts_full page n level key child (state_of c) k a (actor_in (state_of c) a) _ (there c a g.known) g.going x.0.can (now c d a k g x.0) here x.1 x.2)
+    answer_post level key child Done x = answered c d a k g x.0 tt (posts_done page n level key child (state_of c) k a (actor_in (state_of c) a) _ (there c a g.known) g.going x.0.can (now c d a k g x.0) x.1.level)
 
     pub answer_halve : (r : Parted) → HalvesPage (state_of c) a page r (state_of d) → Answered c d a (λ v w. PartsPage v w page r)
     answer_halve (HasParted key child) x =
-        answered c d a k g x.0 (subst (λ z. PartsPage (view_of (solo_of c a)) (after_view c d a k g x.0) page (HasParted z child)) (sym x.1)
+        answered c d a k g x.0 tt (subst (λ z. PartsPage (view_of (solo_of c a)) (after_view c d a k g x.0) page (HasParted z child)) (sym x.1)
         (parts page n child (state_of c) k a (actor_in (state_of c) a) _ (there c a g.known) g.going x.0.can (now c d a k g x.0) x.2))
     answer_halve Roomy x =
         let P : Bool → Type 0 = λ b. Does (state_of c) a (cond b (trim page n) (visit page)) (state_of d) → Answered c d a (λ v w. PartsPage v w page Roomy) in
         (elim (n.level == 0) as P [
-          | true ↦ λ y. answered c d a k g y (parts_after_trim page n (state_of c) k a (actor_in (state_of c) a) _ (there c a g.known) g.going y.can (now c d a k g y) x.1)
-          | false ↦ λ y. answered c d a k g y (parts_none page n (state_of c) k a (actor_in (state_of c) a) _ (there c a g.known) g.going y.can (now c d a k g y) here x.1)
+          | true ↦ λ y. answered c d a k g y tt (parts_after_trim page n (state_of c) k a (actor_in (state_of c) a) _ (there c a g.known) g.going y.can (now c d a k g y) x.1)
+          | false ↦ λ y. answered c d a k g y tt (parts_none page n (state_of c) k a (actor_in (state_of c) a) _ (there c a g.known) g.going y.can (now c d a k g y) here x.1)
         ]) x.0

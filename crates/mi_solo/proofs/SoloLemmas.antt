@@ -9,7 +9,7 @@ use Rattle.mi_core.specs.State.{State}
 use Rattle.mi_entries.specs.Actors.{Actor}
 use Rattle.mi_solo.specs.declared.cores.Core.{Core}
 use Rattle.mi_solo.specs.States.{Does, IsGoing, actor_in, state_of, view_in}
-use Rattle.mi_solo.specs.Solos.{MayTurn, Section, SoloState, view_of}
+use Rattle.mi_solo.specs.Solos.{IsCall, MayTurn, Section, SoloState, view_of}
 use Rattle.mi_solo.proofs.CoreLemmas.{length-actors_of, there}
 use Rattle.mi_solo.proofs.OwnLemmas.{goes_on, mine}
 use Rattle.mi_world.specs.View.{View}
@@ -20,6 +20,7 @@ solo_of c a = record { state = state_of c; turn = a }
 -- one event led from the one to the other, of which this is told
 pub record Answered (c d : Core) (a : ℕ) (told : View → View → Type 0) : Type 0 where
   pub event : Event
+  pub call : IsCall event
   pub does : Does (state_of c) a event (state_of d)
   pub tells : told (view_of (solo_of c a)) (view_of (solo_of d a))
 
@@ -51,8 +52,8 @@ module _ (c d : Core) (a : ℕ) (k : Kept (state_of c)) (g : IsGoing c a) (e : E
   )
 
   -- that was one section
-  pub one_section : Section (solo_of c a) (solo_of d a)
-  one_section = inr (refl, record { actor = actor_in (state_of c) a; there = there c a g.known; going = g.going; event = e; can = does.can; is = does.is })
+  pub one_section : IsCall e → Section (solo_of c a) (solo_of d a)
+  one_section call = inr (refl, record { call = call; leads = record { actor = actor_in (state_of c) a; there = there c a g.known; going = g.going; event = e; can = does.can; is = does.is } })
 
 module _ (c d : Core) (a : ℕ) (k : Kept (state_of c)) (g : IsGoing c a) {e : Event} (does : Does (state_of c) a e (state_of d)) where
   -- the view after the event
@@ -65,8 +66,8 @@ module _ (c d : Core) (a : ℕ) (k : Kept (state_of c)) (g : IsGoing c a) {e : E
       m.1 ∙ ap Some (sym (get_or_from_slice_get (after (state_of c) a (actor_in (state_of c) a) e).actors a m.0 first_actor m.1))
 
   -- what a law tells of it is the answer's meaning
-  pub answered : {told : View → View → Type 0} → told (view_of (solo_of c a)) after_view → Answered c d a told
-  answered {told} h = record { event = e; does = does; tells = subst (λ (s : State). told (view_of (solo_of c a)) (view_in s a)) (sym does.is) h }
+  pub answered : {told : View → View → Type 0} → IsCall e → told (view_of (solo_of c a)) after_view → Answered c d a told
+  answered {told} call h = record { event = e; call = call; does = does; tells = subst (λ (s : State). told (view_of (solo_of c a)) (view_in s a)) (sym does.is) h }
 
 module _ (c d : Core) (a : ℕ) {told : View → View → Type 0} (x : Answered c d a told) where
   pub told_at : (v : SoloState) → solo_of c a ≡ v → told (view_of v) (view_of (solo_of d a))
@@ -77,4 +78,4 @@ module _ (c d : Core) (a : ℕ) {told : View → View → Type 0} (x : Answered 
     stays_so = stays c d a k g x.event x.does
 
     pub section_at : (v : SoloState) → solo_of c a ≡ v → Section v (solo_of d a)
-    section_at v e = subst (λ (t : SoloState). Section t (solo_of d a)) e (one_section c d a k g x.event x.does)
+    section_at v e = subst (λ (t : SoloState). Section t (solo_of d a)) e (one_section c d a k g x.event x.does x.call)

@@ -26,18 +26,18 @@ use Rattle.mi_solo.proofs.WorkEvents.{gives_nothing, gives_split, gives_sweep, g
 
 module _ (c d : Core) (a : ℕ) (k : Kept (state_of c)) (g : IsGoing c a) where
   pub answer_work : (r : Work) → made.GivesWork (state_of c) a r (state_of d) → Answered c d a (λ v w. GivesWork v w r)
-  answer_work (work.Sweep p) x = answered c d a k g x ((gives_sweep p) (state_of c) k a (actor_in (state_of c) a) _ (there c a g.known) g.going x.can (now c d a k g x))
-  answer_work (work.Split leaf) x = answered c d a k g x.0 ((gives_split leaf) (state_of c) k a (actor_in (state_of c) a) _ (there c a g.known) g.going x.0.can (now c d a k g x.0) x.1)
-  answer_work work.Idle x = answered c d a k g x (gives_nothing (state_of c) k a (actor_in (state_of c) a) _ (there c a g.known) g.going x.can (now c d a k g x))
+  answer_work (work.Sweep p) x = answered c d a k g x tt ((gives_sweep p) (state_of c) k a (actor_in (state_of c) a) _ (there c a g.known) g.going x.can (now c d a k g x))
+  answer_work (work.Split leaf) x = answered c d a k g x.0 tt ((gives_split leaf) (state_of c) k a (actor_in (state_of c) a) _ (there c a g.known) g.going x.0.can (now c d a k g x.0) x.1)
+  answer_work work.Idle x = answered c d a k g x tt (gives_nothing (state_of c) k a (actor_in (state_of c) a) _ (there c a g.known) g.going x.can (now c d a k g x))
 
   pub answer_up : (pages : Bool) → Does (state_of c) a (give_up_event pages) (state_of d) → Answered c d a (λ v w. GivesUp v w pages)
-  answer_up pages x = answered c d a k g x ((gives_up pages) (state_of c) k a (actor_in (state_of c) a) _ (there c a g.known) g.going x.can (now c d a k g x))
+  answer_up pages x = answered c d a k g x tt ((gives_up pages) (state_of c) k a (actor_in (state_of c) a) _ (there c a g.known) g.going x.can (now c d a k g x))
 
   pub answer_publish : (r : Result Position NoMemory) → made.Publishes (state_of c) a r (state_of d) → Answered c d a (λ v w. Publishes v w r)
   answer_publish (Ok position) x =
-      answered c d a k g x.0 (subst (λ z. Publishes (view_of (solo_of c a)) (after_view c d a k g x.0) (Ok z)) (sym (x.1 ∙ ap (λ (s : State). end_of s.board.log) x.0.is))
+      answered c d a k g x.0 tt (subst (λ z. Publishes (view_of (solo_of c a)) (after_view c d a k g x.0) (Ok z)) (sym (x.1 ∙ ap (λ (s : State). end_of s.board.log) x.0.is))
       (publishes (state_of c) k a (actor_in (state_of c) a) _ (there c a g.known) g.going x.0.can (now c d a k g x.0)))
-  answer_publish (Err e) x = answered c d a k g x (publishes_none e (state_of c) k a (actor_in (state_of c) a) _ (there c a g.known) g.going x.can (now c d a k g x))
+  answer_publish (Err e) x = answered c d a k g x tt (publishes_none e (state_of c) k a (actor_in (state_of c) a) _ (there c a g.known) g.going x.can (now c d a k g x))
 
   module _ (page : ℕ) (linked : IsTrue (is_linked (state_of c) page)) where
     abbrev n : Node
@@ -47,12 +47,12 @@ module _ (c d : Core) (a : ℕ) (k : Kept (state_of c)) (g : IsGoing c a) where
     here = page_is (state_of c) page linked
 
     pub answer_sweep : (r : Visit) → made.Sweeps (state_of c) a page r (state_of d) → Answered c d a (λ v w. Sweeps v w page r)
-    answer_sweep (Down p) x = answered c d a k g x.0 ((sweeps_down page n p) (state_of c) k a (actor_in (state_of c) a) _ (there c a g.known) g.going x.0.can (now c d a k g x.0) here x.1)
-    answer_sweep (Right p) x = answered c d a k g x.0 ((sweeps_right page n p) (state_of c) k a (actor_in (state_of c) a) _ (there c a g.known) g.going x.0.can (now c d a k g x.0) here x.1)
-    answer_sweep (Read next) x = answered c d a k g x.0 ((sweeps_on page n next) (state_of c) k a (actor_in (state_of c) a) _ (there c a g.known) g.going x.0.can (now c d a k g x.0) x.1)
+    answer_sweep (Down p) x = answered c d a k g x.0 tt ((sweeps_down page n p) (state_of c) k a (actor_in (state_of c) a) _ (there c a g.known) g.going x.0.can (now c d a k g x.0) here x.1)
+    answer_sweep (Right p) x = answered c d a k g x.0 tt ((sweeps_right page n p) (state_of c) k a (actor_in (state_of c) a) _ (there c a g.known) g.going x.0.can (now c d a k g x.0) here x.1)
+    answer_sweep (Read next) x = answered c d a k g x.0 tt ((sweeps_on page n next) (state_of c) k a (actor_in (state_of c) a) _ (there c a g.known) g.going x.0.can (now c d a k g x.0) x.1)
 
     pub answer_gather : (r : Result Visit NoMemory) → made.Gathers (state_of c) a page r (state_of d) → Answered c d a (λ v w. Gathers v w page r)
-    answer_gather (Ok (Down p)) x = answered c d a k g x.0 (gathers_down page n p (state_of c) k a (actor_in (state_of c) a) _ (there c a g.known) g.going x.0.can (now c d a k g x.0) here x.1)
-    answer_gather (Ok (Right p)) x = answered c d a k g x.0 (gathers_right page n p (state_of c) k a (actor_in (state_of c) a) _ (there c a g.known) g.going x.0.can (now c d a k g x.0) here x.1)
-    answer_gather (Ok (Read next)) x = answered c d a k g x.0 (gathers_on page n next (state_of c) k a (actor_in (state_of c) a) _ (there c a g.known) g.going x.0.can (now c d a k g x.0) x.1)
-    answer_gather (Err e) x = answered c d a k g x (gathers_memory page e (state_of c) k a (actor_in (state_of c) a) _ (there c a g.known) g.going x.can (now c d a k g x))
+    answer_gather (Ok (Down p)) x = answered c d a k g x.0 tt (gathers_down page n p (state_of c) k a (actor_in (state_of c) a) _ (there c a g.known) g.going x.0.can (now c d a k g x.0) here x.1)
+    answer_gather (Ok (Right p)) x = answered c d a k g x.0 tt (gathers_right page n p (state_of c) k a (actor_in (state_of c) a) _ (there c a g.known) g.going x.0.can (now c d a k g x.0) here x.1)
+    answer_gather (Ok (Read next)) x = answered c d a k g x.0 tt (gathers_on page n next (state_of c) k a (actor_in (state_of c) a) _ (there c a g.known) g.going x.0.can (now c d a k g x.0) x.1)
+    answer_gather (Err e) x = answered c d a k g x tt (gathers_memory page e (state_of c) k a (actor_in (state_of c) a) _ (there c a g.known) g.going x.can (now c d a k g x))

@@ -1,7 +1,8 @@
 -- A core in the turn of one of its actors.
 use Rattle.std.specs.Prelude.{◌≡◌, ◌<◌, ◌⊎◌, ℕ, length, false, Option, Some, None}
 use Rattle.std.proofs.Common.{inl, refl}
-use Rattle.mi_core.specs.Events.{Leads}
+use Rattle.mi_core.specs.Events.{Event, Leads}
+use Rattle.mi_core.specs.Events.Event.{absorb, depart, fork}
 use Rattle.mi_core.specs.State.{State}
 use Rattle.mi_page.specs.Nodes.{Node}
 use Rattle.mi_solo.specs.States.{actor_in, view_in}
@@ -21,9 +22,21 @@ pub record MayTurn (s : State) (a : ℕ) : Type 0 where
   pub made : a < length s.actors
   pub going : (actor_in s a).ended ≡ false
 
+-- no actor is made by the event, ended or left
+abbrev pub IsCall : Event → Type 0
+IsCall fork = ⊥
+IsCall (absorb other r) = ⊥
+IsCall depart = ⊥
+IsCall e = Unit {0}
+
+-- a call is an event of one actor, and makes no other and ends none
+pub record Calls (s : State) (a : ℕ) (t : State) : Type 0 where
+  pub leads : Leads s a t
+  pub call : IsCall leads.event
+
 -- at most one event of the actor whose turn it is leads from the one to the other, and the turn stays
 abbrev pub Section : SoloState → SoloState → Type 0
-Section old new = (new ≡ old) ⊎ ((new.turn ≡ old.turn) × Leads old.state old.turn new.state)
+Section old new = (new ≡ old) ⊎ ((new.turn ≡ old.turn) × Calls old.state old.turn new.state)
 
 -- no event is at most one
 pub section_none : (t : SoloState) → Section t t

@@ -1,0 +1,52 @@
+-- The splitter goes on alone until all leaves are settled.
+use Rattle.std.specs.Prelude.{◌≡◌, ◌<◌, ◌≤◌, ◌||◌, ℕ, Bool, true, false, List, ◌++◌, Some, None, Result, Ok, Err, length, slice_get}
+use Rattle.mi_base.specs.declared.refusals.NoMemory.{NoMemory}
+use Rattle.mi_base.specs.History.{live, updates_of}
+use Rattle.mi_core.specs.State.{State}
+use Rattle.mi_entries.specs.Actors.{Actor}
+use Rattle.mi_job.specs.Claims.{ClaimsNone}
+use Rattle.mi_replay.specs.declared.splitters.SplitterSeat.{SplitterSeat}
+use Rattle.mi_replay.specs.InOrder.{AllBy, entry_count}
+use Rattle.mi_replay.specs.Moving.{MakeCalls}
+use Rattle.mi_replay.specs.Splitters.{SplitterAt}
+use Rattle.mi_replay.specs.Turns.{Turn, Chained}
+use Rattle.mi_solo.specs.Solos.{MayTurn}
+use Rattle.mi_solo.specs.States.{view_in}
+use Rattle.mi_tree.specs.Growing.{GrowsBySplits}
+use Rattle.mi_tree.specs.Legal.{Settled}
+
+-- nobody claims a leaf, sweeps or splits one, or has a pin
+pub record HoldsNothing (r : Actor) : Type 0 where
+  pub claim : r.claim ≡ None
+  pub sweep : r.sweep ≡ None
+  pub split : r.split ≡ None
+  pub pin : r.pin ≡ None
+
+abbrev pub IsAtRest : State → Type 0
+IsAtRest s = (b : ℕ) (r : Actor) → slice_get s.actors b ≡ Some r → HoldsNothing r
+
+-- a settled core: an entry for each live object and no others, and no leaf to be split while there are pages
+pub record IsSettled (s : State) : Type 0 where
+  pub entries : entry_count s ≡ length (live (updates_of s.board.log))
+  pub settled : s.board.allotted < s.board.settings.pages → Settled s.board.settings s.board.log
+
+abbrev pub is_refused : Result (Unit {0}) NoMemory → Bool
+is_refused (Ok _) = false
+is_refused (Err e) = true
+
+abbrev pub LeavesSettled : Result (Unit {0}) NoMemory → State → Type 0
+LeavesSettled (Ok _) t = IsSettled t
+LeavesSettled (Err e) t = Unit {0}
+
+-- What settling made: turns of the splitter alone, of which a split given up for want of memory is the last operation.
+pub record Settles (a : ℕ) (s : State) (result : Result (Unit {0}) NoMemory) (t : State) : Type 0 where
+  pub made : List Turn
+  pub chained : Chained s made t
+  pub by : AllBy a made
+  pub calls : MakeCalls made
+  pub grows : GrowsBySplits s.board.log t.board.log
+  pub at : (turns : List Turn) (wanted : Bool) → SplitterAt turns s a (record { care = record { task = None }; wanted = wanted })
+      → SplitterAt (turns ++ made) t a (record { care = record { task = None }; wanted = wanted || is_refused result })
+  pub may : MayTurn t a
+  pub claims : ClaimsNone (view_in t a)
+  pub leaves : LeavesSettled result t
