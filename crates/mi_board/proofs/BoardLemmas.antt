@@ -1,7 +1,6 @@
 -- What holds of every board holds after each event.
 use Rattle.std.proofs.Common.{◌^◌, ◌≡◌, ℕ, ℤ, ◌*◌, ◌<◌, ◌≤◌, List, [], ◌∷◌, ◌++◌, map, length, true, false, IsTrue, refl, sym, ap, ◌∙◌, subst, arith, Bool, cond, not, ◌&&◌, ◌||◌}
 use Rattle.std.specs.Prelude.{◌==◌}
-use Rattle.std.proofs.lemmas.Nat.{mul-le}
 use Rattle.std.proofs.lemmas.Bool.{and_parts, eq-eqb}
 use Rattle.std.proofs.lemmas.List.Elements.{All-from_recursion}
 use Rattle.std.specs.Prelude.{All}
@@ -10,7 +9,7 @@ use Rattle.std.proofs.lemmas.List.{length-map}
 use Rattle.mi_base.specs.declared.records.LogEvent.{LogEvent}
 use Rattle.mi_base.specs.declared.records.LogEvent.TheVariants.{Update as Made, Split}
 use Rattle.mi_base.specs.declared.records.Update.TheVariants.{Insert, Delete}
-use Rattle.mi_base.specs.Configuration.{Configuration, IsWithinLimits, metric_space, space_of}
+use Rattle.mi_base.specs.Configuration.{Configuration, IsWithinLimits, metric_space}
 use Rattle.mi_base.specs.History.{Object, TheOne, is_live, live, updates_of}
 use Rattle.mi_base.specs.Permutations.{begins}
 use Rattle.mi_base.specs.Sorting.{SameElements}
@@ -19,32 +18,21 @@ use Rattle.mi_base.proofs.LiveLemmas.{few_live, length_filter}
 use Rattle.mi_base.proofs.SortingLemmas.{same_length}
 use Rattle.mi_tree.specs.declared.outcomes.Leaf.{Leaf}
 use Rattle.mi_tree.specs.declared.counts.Placed.{Placed}
-use Rattle.mi_tree.specs.Cells.{IsGrid, leaves, same_cell}
+use Rattle.mi_tree.specs.Cells.{leaves, same_cell}
 use Rattle.mi_tree.specs.Counting.{with_removed, split_leaf, belongs, placed_object, population, leaf_with, has_leaf, is_crowded, is_overfull}
 use Rattle.mi_tree.specs.Legal.{MayFollow, IsUncrowded, LegalLog, cells_of}
 use Rattle.mi_tree.proofs.CatLemmas.{cat-insert, cat-delete, cat-split, held_live}
 use Rattle.mi_tree.proofs.CountLemmas.{counts_some, cat_has}
-use Rattle.mi_tree.proofs.CatalogLemmas.{depth_is}
+use Rattle.mi_tree.proofs.LimitLemmas.{is_grid}
 use Rattle.mi_tree.proofs.ListLemmas.{all_any, all_map}
-use Rattle.mi_tree.proofs.GridLemmas.{space_is_grid}
 use Rattle.mi_tree.proofs.LegalLemmas.{grid, wanted, all_may, legal_more, uncrowded_from, updates_of_split}
-use Rattle.mi_tree.proofs.SplitsLemmas.{few_splits}
 use Rattle.mi_tree.proofs.LeafLemmas.{same_cell_is}
 use Rattle.mi_board.proofs.CrowdLemmas.{or_nothing, added_fits, removed_fits, parted_fits, wanted_few, empty_fits}
 
 module _ (c : Configuration) (limits : IsWithinLimits c) (log : List LogEvent) (legal : LegalLog c log) where
-  pub is_grid : IsGrid (grid c)
-  is_grid = space_is_grid (space_of c) c.levels limits.few_pivots limits.levels
-
   -- no leaf of a legal log is too full
   pub uncrowded : IsUncrowded c log
   uncrowded = uncrowded_from c [] log legal.each (empty_fits (grid c) c.levels c.cell (leaves (grid c) []))
-
-  -- a log is short
-  pub log_short : length log ≤ 1400000
-  log_short =
-      let most : c.updates * c.levels ≤ 200000 * 6 = mul-le c.updates c.levels 200000 6 limits.updates.1 (depth_is (length c.pivots) c.levels limits.levels).0 in
-      omega (arith, few_splits c log is_grid legal, legal.few, limits.updates.1, most)
 
   -- no leaf counts so much that it can't count one more
   pub counts_room : (perm : List ℕ) → All (λ l. begins l.prefix perm ≡ true → l.count < 4294967295) (cells_of c log)
@@ -90,7 +78,7 @@ module _ (c : Configuration) (limits : IsWithinLimits c) (log : List LogEvent) (
   module _ (p : List ℕ) (may : MayFollow c log (Split p)) (objects : List Placed) (same : SameElements objects (map (placed_object (grid c)) (filter (belongs (grid c) p) (live (updates_of log))))) where
     -- the cells after the split
     pub split_cells : cells_of c (log ++ Split p ∷ []) ≡ flat_map (split_leaf (length c.pivots) p objects) (cells_of c log)
-    split_cells = cat-split (grid c) is_grid log (all_may c log legal) p (wanted c log p may).0 objects same
+    split_cells = cat-split (grid c) (is_grid c limits log legal) log (all_may c log legal) p (wanted c log p may).0 objects same
 
     -- the split's objects are few
     pub split_few : length objects ≤ 4 * c.cell

@@ -41,7 +41,7 @@ pub shared_more : (c : Configuration) (log xs : List LogEvent) (kept : Option Ke
 shared_more c log xs None h = tt
 shared_more c log xs (Some k) h = (position_more log xs k.at h.0, h.1 ∙ ap (cells_in c) (sym (at_more log xs k.at h.0)))
 
-earlier_low : (o : Option Position) (q : Position) → events_at (earlier o q) ≤ events_at q
+pub earlier_low : (o : Option Position) (q : Position) → events_at (earlier o q) ≤ events_at q
 earlier_low None q = omega arith
 earlier_low (Some p) q =
     let Q : Bool → Type 0 = λ b. nat_le (events_at p) (events_at q) ≡ b → events_at (cond b p q) ≤ events_at q in

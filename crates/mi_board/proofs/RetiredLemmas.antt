@@ -15,13 +15,13 @@ use Rattle.mi_base.specs.Permutations.{begins}
 use Rattle.mi_board.specs.declared.retired.RetiredLeaf.{RetiredLeaf}
 use Rattle.mi_board.specs.Floors.{earliest_in}
 use Rattle.mi_board.specs.Kept.{IsRetired}
-use Rattle.mi_board.proofs.BoardLemmas.{is_grid}
 use Rattle.mi_tree.specs.Births.{is_split_of, was_split}
 use Rattle.mi_tree.specs.Cells.{AllMaySplit, Grid, IsGrid, MaySplit, depth, depth_after, is_leaf, same_cell}
 use Rattle.mi_tree.specs.Counting.{belongs}
 use Rattle.mi_tree.specs.Legal.{EachMayFollow, LegalLog, MayFollow}
 use Rattle.mi_tree.proofs.LeafLemmas.{leaf_is, same_cell_is, same_self}
 use Rattle.mi_tree.proofs.LegalLemmas.{all_may, grid, may_split, wanted}
+use Rattle.mi_tree.proofs.LimitLemmas.{is_grid}
 use Rattle.mi_tree.proofs.ListLemmas.{all_joined}
 use Rattle.mi_tree.proofs.SplitsLemmas.{deeper, depth_within}
 

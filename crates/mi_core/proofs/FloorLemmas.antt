@@ -5,7 +5,7 @@ use Rattle.std.proofs.lemmas.Bool.Decides.{nat_tests}
 use Rattle.mi_base.specs.declared.records.Position.{Position}
 use Rattle.mi_base.specs.History.{events_at}
 use Rattle.mi_board.specs.Floors.{earlier, least_pin}
-use Rattle.mi_board.proofs.FloorLemmas.{least_low}
+use Rattle.mi_board.proofs.FloorLemmas.{earlier_low, least_low}
 use Rattle.mi_board.specs.Actors.{idle}
 use Rattle.mi_board.specs.declared.actors.ActorState.{ActorState}
 
@@ -41,12 +41,6 @@ pub least_same : (f : ActorState → ActorState) → ((x : ActorState) → (f x)
 least_same f same end [] a = refl
 least_same f same end (x ∷ actors) zero = ap (λ o. earlier o (least_pin end actors)) (same x)
 least_same f same end (x ∷ actors) (suc a) = ap (earlier x.pin) (least_same f same end actors a)
-
-earlier_low : (o : Option Position) (q : Position) → events_at (earlier o q) ≤ events_at q
-earlier_low None q = omega arith
-earlier_low (Some p) q =
-    let Q : Bool → Type 0 = λ b. nat_le (events_at p) (events_at q) ≡ b → events_at (cond b p q) ≤ events_at q in
-    (elim (nat_le (events_at p) (events_at q)) as Q [ true ↦ λ s. leb-true (events_at p) (events_at q) s | false ↦ λ s. omega arith ]) refl
 
 -- a pin that ends
 pub least_unpin : (f : ActorState → ActorState) → ((x : ActorState) → (f x).pin ≡ None) → (end : Position) (actors : List ActorState) (a : ℕ) → events_at (least_pin end actors) ≤ events_at (least_pin end (set actors a (f (get_or actors a idle))))

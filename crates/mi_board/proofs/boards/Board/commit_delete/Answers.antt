@@ -16,7 +16,8 @@ use Rattle.mi_tree.specs.Cells.{same_cell}
 use Rattle.mi_tree.specs.Counting.{with_removed}
 use Rattle.mi_tree.specs.Legal.{cells_of}
 use Rattle.mi_tree.proofs.LegalLemmas.{grid, one_live}
-use Rattle.mi_board.proofs.BoardLemmas.{any_first, counted, delete_cells, delete_legal, is_grid, one_perm}
+use Rattle.mi_tree.proofs.LimitLemmas.{is_grid}
+use Rattle.mi_board.proofs.BoardLemmas.{any_first, counted, delete_cells, delete_legal, one_perm}
 use Rattle.mi_board.proofs.CrowdLemmas.{removed_prefix}
 use Rattle.mi_board.proofs.StepLemmas.{boards_equal, prefixes_same, update_holds}
 use Rattle.mi_board.proofs.boards.Board.commit_delete.Goals as goal

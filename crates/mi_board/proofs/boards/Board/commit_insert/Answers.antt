@@ -12,7 +12,8 @@ use Rattle.mi_tree.specs.declared.outcomes.Leaf.{Leaf}
 use Rattle.mi_tree.specs.Catalog.{CatalogState, prefixes_of}
 use Rattle.mi_tree.specs.Counting.{leaves_beginning, with_added}
 use Rattle.mi_tree.specs.Legal.{LegalLog}
-use Rattle.mi_board.proofs.BoardLemmas.{counts_room, insert_legal, is_grid}
+use Rattle.mi_tree.proofs.LimitLemmas.{is_grid}
+use Rattle.mi_board.proofs.BoardLemmas.{counts_room, insert_legal}
 use Rattle.mi_board.proofs.CrowdLemmas.{added_prefix, crowded_one}
 use Rattle.mi_board.proofs.StepLemmas.{boards_equal, insert_now, prefixes_same, update_holds}
 use Rattle.mi_board.proofs.boards.Board.commit_insert.Goals as goal

@@ -9,9 +9,10 @@ use Rattle.mi_board.specs.Actors.{actor_at, without_claim}
 use Rattle.mi_board.specs.Boards.{BoardState, MayPublish, leaf_claimed, prefix_or, with_split}
 use Rattle.mi_board.specs.Marks.{split_marks}
 use Rattle.mi_board.proofs.ActorLemmas.{actor_is, change_is, reserved}
-use Rattle.mi_board.proofs.BoardLemmas.{log_short, split_few}
+use Rattle.mi_board.proofs.BoardLemmas.{split_few}
 use Rattle.mi_board.proofs.StepLemmas.{boards_equal, publish_holds, publish_marks}
 use Rattle.mi_tree.specs.Catalog.{CatalogState, prefixes_of}
+use Rattle.mi_tree.proofs.LimitLemmas.{log_short}
 use Rattle.mi_board.proofs.boards.Board.publish.Goals as goal
 
 pub overflow_cast-len : goal.overflow_cast-len
