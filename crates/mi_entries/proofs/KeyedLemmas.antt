@@ -1,12 +1,9 @@
 -- Keys of objects under settings within their limits.
-use Rattle.std.proofs.Common.{◌≡◌, ℕ, ℤ, suc, zero, ◌^◌, ◌<◌, ◌≤◌, List, [], ◌∷◌, map, length, take, true, IsTrue, ◌&&◌, nat_lt, nat_le, refl, ap, subst, arith}
+use Rattle.std.proofs.Common.{◌≡◌, ℕ, ℤ, suc, zero, ◌^◌, ◌<◌, ◌≤◌, List, [], ◌∷◌, length, take, true, IsTrue, ◌&&◌, nat_lt, nat_le, refl, ap, subst, arith}
 use Rattle.std.proofs.lemmas.Bool.{and_parts}
 use Rattle.std.proofs.lemmas.List.{length-take}
-use Rattle.std.specs.Prelude.{slice_index}
-use Rattle.std.specs.List.{AllByRecursion}
 use Rattle.mi_base.specs.Configuration.{Configuration, IsWithinLimits, metric_space, space_of}
-use Rattle.mi_base.specs.Space.{IsMetric, MetricSpace}
-use Rattle.mi_base.specs.Permutations.{distance_at_first, distances, permutation_of}
+use Rattle.mi_base.specs.Space.{IsMetric}
 use Rattle.mi_base.specs.Prefixes.{all_below, are_different}
 use Rattle.mi_key.specs.declared.keys.KeyParts.{KeyParts}
 use Rattle.mi_key.specs.Clusters.{cluster_of}
@@ -15,6 +12,7 @@ use Rattle.mi_key.proofs.ClusterLemmas.{cluster-exact, cluster-small}
 use Rattle.mi_key.proofs.KeyLemmas.{parts_of-key_of}
 use Rattle.mi_tree.specs.Cells.{Grid, IsGrid}
 use Rattle.mi_tree.proofs.CatalogLemmas.{depth_is}
+use Rattle.mi_tree.proofs.DistanceLemmas.{key_distance_small}
 use Rattle.mi_tree.proofs.GridLemmas.{space_is_grid}
 use Rattle.mi_tree.specs.Births.{Born}
 use Rattle.mi_entries.specs.Entries.{FitsKey, key_down, grid}
@@ -68,19 +66,6 @@ module _ (c : Configuration) (limits : IsWithinLimits c) where
     apart = apart;
   }
 
--- a bound of all distances bounds the one at a place
-bounded_at : (m : MetricSpace) → IsMetric m → (v : List ℤ) → IsTrue (m.fits v) → (ps : List (List ℤ)) → AllByRecursion (λ p. IsTrue (m.fits p)) ps → (j : ℕ) → slice_index (map (m.d v) ps) j ≤ 128000000
-bounded_at m is v fits [] all j = omega arith
-bounded_at m is v fits (p ∷ ps) all zero = is.bound v p fits all.0
-bounded_at m is v fits (p ∷ ps) all (suc j) = bounded_at m is v fits ps all.1 j
-
-first_bounded : (most : ℕ) (dists perm : List ℕ) → ((j : ℕ) → slice_index dists j ≤ most) → distance_at_first dists perm ≤ most
-first_bounded most dists [] h = omega arith
-first_bounded most dists (p ∷ ps) h = h p
-
 -- the key distance of a vector that fits has room in a key
 pub distance_small : (c : Configuration) → IsWithinLimits c → IsMetric (metric_space c) → (v : List ℤ) → IsTrue ((metric_space c).fits v) → (grid c).distance v < 2 ^ 27
-distance_small c limits metric v fits =
-    let dists = distances (space_of c) v in
-    let first = first_bounded 128000000 dists (permutation_of dists) (bounded_at (metric_space c) metric v fits c.pivots limits.pivots) in
-    omega arith
+distance_small c limits metric v fits = key_distance_small (space_of c) metric limits.pivots v fits

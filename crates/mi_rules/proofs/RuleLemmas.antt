@@ -20,6 +20,7 @@ use Rattle.mi_base.proofs.HistoryLemmas.{same_any}
 use Rattle.mi_base.proofs.PivotLemmas.{permutation_of-ascends, same_permutation_of}
 use Rattle.mi_tree.specs.declared.outcomes.Leaf.{Leaf}
 use Rattle.mi_tree.specs.Counting.{in_hull}
+use Rattle.mi_tree.proofs.DistanceLemmas.{key_distance_small}
 use Rattle.mi_rules.specs.Passing.{IsBound, double_pivot, hull_passes, lets_through, none_nearer, passes, range_pivot, rules_pass}
 use Rattle.mi_key.specs.Clusters.{cluster_of}
 use Rattle.mi_key.specs.declared.keys.KeyParts.{KeyParts}
@@ -258,22 +259,9 @@ pub answer_passes : (space : Space) (query object : List ℤ) (r : ℕ) → IsAn
 answer_passes space query object r a leaf h =
     filter_passes (distances space query) (distances space object) r leaf (same_lengths space query object) (answer_filters space query object r a) h.begun h.covered
 
--- a distance that all distances are bounded by bounds the one at a place
-bounded_at : (m : MetricSpace) → IsMetric m → (v : List ℤ) → IsTrue (m.fits v) → (ps : List (List ℤ)) → AllByRecursion (λ p. IsTrue (m.fits p)) ps → (j : ℕ) → slice_index (map (m.d v) ps) j ≤ 128000000
-bounded_at m is v fits [] all j = omega arith
-bounded_at m is v fits (p ∷ ps) all zero = is.bound v p fits all.0
-bounded_at m is v fits (p ∷ ps) all (suc j) = bounded_at m is v fits ps all.1 j
-
-first_bounded : (most : ℕ) (dists perm : List ℕ) → ((j : ℕ) → slice_index dists j ≤ most) → distance_at_first dists perm ≤ most
-first_bounded most dists [] h = omega arith
-first_bounded most dists (p ∷ ps) h = h p
-
 -- a key has place for the distance of an answer
 pub distance_small : (space : Space) (query object : List ℤ) (r : ℕ) → IsAnswer space query object r → key_distance (distances space object) < 2 ^ 27
-distance_small space query object r a =
-    let dists = distances space object in
-    let first = first_bounded 128000000 dists (permutation_of dists) (bounded_at space.metric a.metric object a.object_fits space.pivots a.pivots_fit) in
-    omega arith
+distance_small space query object r a = key_distance_small space a.metric a.pivots_fit object a.object_fits
 
 pub answer_spans : (space : Space) (query object : List ℤ) (r : ℕ) → IsAnswer space query object r → (leaf : Leaf) → MayHold leaf (distances space object) → (leaf.prefix ≡ [] → space.pivots ≡ [])
     → (levels : ℕ) (key : KeyParts) → key.cluster ≡ cluster_of (length space.pivots) levels leaf.prefix → key.distance ≡ key_distance (distances space object)

@@ -3,6 +3,7 @@ pub mod CatLemmas
 pub mod CatalogLemmas
 pub mod CountLemmas
 pub mod CoverLemmas
+pub mod DistanceLemmas
 pub mod GridLemmas
 pub mod HullLemmas
 pub mod LeafLemmas
