@@ -1,4 +1,5 @@
 pub mod Alone
+pub mod Entries
 pub mod InOrder
 pub mod Moving
 pub mod Outcomes
