@@ -1,6 +1,6 @@
 -- How many entries the pages have: an own one of each live object, and no others where nothing is under way.
-use Rattle.std.proofs.Common.{◌≡◌, ◌≢◌, ℕ, zero, suc, ◌+◌, ◌-◌, ◌<◌, ◌≤◌, List, [], ◌∷◌, length, set, nat_le, true, false, Option, Some, None, refl, sym, ap, ◌∙◌, subst, arith, inl, inr, eq-eqb, length-append, get_or-set_other}
-use Rattle.std.specs.List.{AllByRecursion, filter, flat_map, list_any, sum_by}
+use Rattle.std.proofs.Common.{◌≡◌, ◌≢◌, ℕ, zero, suc, ◌+◌, ◌-◌, ◌<◌, ◌≤◌, List, [], ◌∷◌, length, map, set, nat_le, true, false, Option, Some, None, refl, sym, ap, ◌∙◌, subst, arith, inl, inr, eq-eqb, length-append, get_or-set_other}
+use Rattle.std.specs.List.{AllByRecursion, filter, flat_map, list_any, sum, sum_by}
 use Rattle.std.proofs.Math.Seq.{take-length}
 use Rattle.std.proofs.lemmas.Bool.{and_from, cases_eq, cases_lt, false≢true, le-leb, ne_eqb}
 use Rattle.std.proofs.lemmas.List.{length-map}
@@ -27,10 +27,12 @@ use Rattle.mi_forest.proofs.NumberLemmas.{all_from_has}
 use Rattle.mi_entries.specs.Entries.{HasPlace, Shows, born_in, counts, depth_of, grid, id_of, is_in, is_placed, key_down}
 use Rattle.mi_entries.proofs.FilterLemmas.{all_both}
 use Rattle.mi_entries.proofs.RecordLemmas.{born_live, object}
+use Rattle.mi_core.specs.Counted.{total}
 use Rattle.mi_core.specs.Pages.{forest_of, node_or_fresh}
 use Rattle.mi_core.specs.Sound.{Sound}
 use Rattle.mi_core.specs.State.{State, node_at}
 use Rattle.mi_core.proofs.KeptLemmas.{floor_position}
+use Rattle.mi_solo.specs.Solos.{entries_on}
 use Rattle.mi_replay.specs.Entries.{IsTrimmed, NoSplits, NoSweeps}
 use Rattle.mi_replay.specs.InOrder.{entries_at, entry_count}
 
@@ -163,3 +165,12 @@ module _ (s : State) (k : Sound s) where
         all_at P (node_at s.pages p) (λ n e. trimmed p n e (sym (ap (λ (o : Option Node). (node_or_fresh o).level) e) ∙ level)))) in
         let all = all_weaker _ (λ e. counts g log e ≡ true) (λ e h. each_counts e h.0 h.1) F (all_both (HasPlace c log s.actors s.board.retired) P F k.entries.places alive) in
         count_is ∙ sym (ap length (filter_all (counts g log) F all)) ∙ counted
+
+-- the entries of all pages, counted as a core counts them
+pub total_is : (pages : List (Option Node)) → total entries_on pages ≡ sum (map entries_at pages)
+total_is [] = refl
+total_is (x ∷ pages) = omega (arith, on_page x, total_is pages, sum-map entries_at (x ∷ pages), sum-map entries_at pages, sum_by-cons entries_at x pages)
+  where
+    on_page : (o : Option Node) → entries_on o ≡ entries_at o
+    on_page None = refl
+    on_page (Some n) = refl

@@ -4,3 +4,4 @@ pub mod RunLemmas
 pub mod AloneLemmas
 pub mod EntriesLemmas
 pub mod EntriesLemmasRest
+pub mod EntriesLemmasTrim

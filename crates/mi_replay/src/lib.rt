@@ -15,5 +15,5 @@ pub use laws::{
 };
 pub use settled::{
     entries_are_live_objects, idle_boards_are_settled, idle_boards_retire_none,
-    trimmed_cores_are_settled,
+    trimmed_cores_are_settled, trims_go_on,
 };

@@ -1,5 +1,8 @@
-use Rattle.mi_replay.proofs.EntriesLemmas.{enough, exact}
+use Rattle.mi_replay.proofs.EntriesLemmas.{enough, exact, total_is}
 use Rattle.mi_replay.proofs.settled.entries_are_live_objects.Goals as goal
+
+pub returns-clause-count : goal.returns-clause-count
+returns-clause-count c = λ s. total_is s.pages
 
 pub returns-clause-least : goal.returns-clause-least
 returns-clause-least c = λ s k. enough s k.sound
