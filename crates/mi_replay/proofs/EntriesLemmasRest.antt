@@ -1,8 +1,9 @@
 -- Where there is nothing to do for a splitter, no leaf is retired, and none is to be split.
-use Rattle.std.proofs.Common.{◌≡◌, ◌≢◌, ℕ, suc, zero, ◌≤◌, List, [], ◌∷◌, length, get_or, ◌&&◌, ◌||◌, Bool, true, false, cond, not, Option, Some, None, refl, sym, ap, ◌∙◌, arith, inl, inr}
+use Rattle.std.proofs.Common.{◌≡◌, ◌≢◌, ℕ, suc, List, [], ◌∷◌, length, get_or, ◌&&◌, ◌||◌, Bool, true, false, cond, not, Option, Some, None, refl, sym, ap, ◌∙◌, arith, inl, inr}
 use Rattle.std.specs.Prelude.{slice_get}
 use Rattle.std.specs.List.{find, list_any}
 use Rattle.std.proofs.lemmas.Bool.{cases_lt}
+use Rattle.std.proofs.lemmas.List.{get_or_past}
 use Rattle.std.proofs.lemmas.Option.{slice_get-get_or}
 use Rattle.mi_base.specs.declared.records.LogEvent.{LogEvent}
 use Rattle.mi_base.specs.declared.records.Position.{Position}
@@ -32,11 +33,6 @@ unpinned end (a ∷ actors) h = ap (λ o. earlier o (least_pin end actors)) (h 0
 unclaimed : (p : List ℕ) (actors : List ActorState) → ((i : ℕ) → (get_or actors i idle).claim ≡ None) → is_claimed p actors ≡ false
 unclaimed p [] h = refl
 unclaimed p (a ∷ actors) h = ap (λ o. is_claim p o || is_claimed p actors) (h 0) ∙ unclaimed p actors (λ i. h (suc i))
-
-get_past : {X : Type 0} (xs : List X) (i : ℕ) (d : X) → length xs ≤ i → get_or xs i d ≡ d
-get_past [] i d h = refl
-get_past (x ∷ xs) zero d h = absurd (omega arith)
-get_past (x ∷ xs) (suc i) d h = get_past xs i d (omega arith)
 
 none_retired : (log : List LogEvent) (actors : List Actor) (ps : List (List ℕ)) → AreRetired log actors ps → earliest_in log ps ≡ None → ps ≡ []
 none_retired log actors [] h e = refl
@@ -71,7 +67,7 @@ module _ (s : State) (k : Sound s) where
     | inl lt ↦
         let d : Actor = made_actor s.board (floor_of s.board) in
         each i (get_or s.actors i d) (slice_get-get_or s.actors i d lt)
-    | inr le ↦ ap field (get_past s.board.actors i idle (omega (arith, k.counted))) ∙ none
+    | inr le ↦ ap field (get_or_past s.board.actors i idle (omega (arith, k.counted))) ∙ none
   ]
 
   no_pins : NoPins s → (i : ℕ) → (get_or s.board.actors i idle).pin ≡ None
