@@ -44,3 +44,4 @@ pub mod GatherSections
 pub mod PublishSections
 pub mod CopySections
 pub mod CopyAnswers
+pub mod FindingLemmas

@@ -10,6 +10,7 @@ mod cores;
 mod delete_section;
 mod gathering;
 mod hands;
+mod id_sets;
 mod insert_section;
 mod keying;
 mod page_sections;

@@ -99,7 +99,7 @@ impl ActorRow {
     pub fn look(&mut self, board: &Board)
         ensures { self.new ≡ record self.old { seen = length board.now.log; floor = floor_of board.now } }
     {
-        self.seen = board.log().len();
+        self.see(board);
         self.floor = board.look().floor;
     }
 

@@ -1,10 +1,11 @@
 //! The records of live objects, in shards by identifier.
-ghost use Rattle.std.specs.Prelude.{◌≡◌, ◌+◌, ◌<◌, ◌==◌, length, not, vec_capacity};
-ghost use Rattle.std.specs.List.{filter, find};
+ghost use Rattle.std.specs.Prelude.{◌≡◌, ◌+◌, ◌<◌, ◌==◌, IfSome, Some, length, not, vec_capacity};
+ghost use Rattle.std.specs.List.{filter, find, position};
 ghost use Rattle.mi_entries.specs.Records.{held_by, no_shard, with_record, without_id};
 ghost use Rattle.mi_solo.specs.Sections.{Promises};
 ghost use Rattle.mi_solo.specs.Viewing.{record_shown};
 
+use crate::id_sets::IdSet;
 use mi_base::{Dists, Id};
 use mi_board::Board;
 use mi_tree::{Look, ReserveRefusal};
@@ -34,18 +35,23 @@ pub struct ShardRow {
     holder: Option<u32>,
     records: Vec<RecordRow>,
     room: usize,
+    // Among these is each identifier that has a record: so most that have none aren't searched for.
+    ids: IdSet,
+    // Where the record stands that was sought last: so it is found at once when it is sought again.
+    sought: Option<usize>,
 }
 
 impl Model for ShardRow {
     ghost use Rattle.std.specs.Prelude.{◌≤◌};
     ghost use Rattle.std.specs.Vec.{vec_capacity};
     ghost use Rattle.mi_entries.specs.Records.{Shard};
+    ghost use Rattle.mi_solo.specs.Finding.{AreAmong, IsFirst};
 
     ghost Value = { Shard };
 
     ghost view = { λ s. record { holder = s.holder; rows = record { records = s.records.items; room = s.room } } };
 
-    ghost invariant = { λ s. s.room ≤ vec_capacity s.records };
+    ghost invariant = { λ s. (s.room ≤ vec_capacity s.records) × AreAmong s.records.items s.ids × IsFirst s.records.items s.sought };
 }
 
 impl ShardRow {
@@ -57,6 +63,8 @@ impl ShardRow {
             holder: None,
             records: Vec::new(alloc),
             room: 0,
+            ids: IdSet::new(alloc),
+            sought: None,
         }
     }
 
@@ -71,11 +79,45 @@ impl ShardRow {
     pub fn record(&self, id: Id) -> Option<Record>
         ensures { result ≡ record_shown (find (λ x. x.id == id) self.now.rows.records) }
     {
-        let row = self.records.iter().find(|row| row.id.get() == id.get())?;
+        let row = self.records.as_slice().get(self.place_of(id)?)?;
         Some(Record {
             birth: row.birth,
             dists: copy_dists(&row.dists),
         })
+    }
+
+    /// The same, and from then on it is found at once.
+    pub fn seek(&mut self, id: Id) -> Option<Record>
+        ensures result { result ≡ record_shown (find (λ x. x.id == id) self.old.rows.records) }
+        ensures same { self.new ≡ self.old }
+    {
+        self.sought = self.place_of(id);
+        self.record(id)
+    }
+
+    /// Where the record of an identifier stands.
+    fn place_of(&self, id: Id) -> Option<usize>
+        ensures { result ≡ position (λ x. x.id == id) self.now.rows.records }
+    {
+        if let Some(place) = self.place_sought(id) {
+            return Some(place);
+        }
+        if !self.ids.may_have(id) {
+            return None;
+        }
+        find_place(&self.records, id)
+    }
+
+    /// The same, where it was sought last.
+    fn place_sought(&self, id: Id) -> Option<usize>
+        ensures { IfSome result (λ place. position (λ x. x.id == id) self.now.rows.records ≡ Some place) }
+    {
+        let place = self.sought?;
+        let row = self.records.as_slice().get(place)?;
+        if row.id.get() != id.get() {
+            return None;
+        }
+        Some(place)
     }
 
     /// The shard is this actor's, or nobody's.
@@ -95,6 +137,9 @@ impl ShardRow {
             let Ok(()) = self.records.reserve(1) else {
                 return Err(ReserveRefusal::Memory);
             };
+            let Ok(()) = self.ids.reserve() else {
+                return Err(ReserveRefusal::Memory);
+            };
         }
         let look = board.reserve(actor)?;
         self.room = self.records.len() + 1;
@@ -111,6 +156,8 @@ impl ShardRow {
             birth,
             dists: copy_dists(dists),
         });
+        self.ids.add(id);
+        self.sought = None;
     }
 
     /// Takes the record of the identifier out.
@@ -118,7 +165,16 @@ impl ShardRow {
         ensures { self.new ≡ held_by self.old.holder (without_id id self.old.rows) }
     {
         drop_record(&mut self.records, id);
+        self.ids.remove(id);
+        self.sought = None;
     }
+}
+
+/// Where the first record of an identifier stands.
+fn find_place(records: &[RecordRow], id: Id) -> Option<usize>
+    ensures { result ≡ position (λ x. x.id == id) records.now }
+{
+    records.iter().position(|row| row.id.get() == id.get())
 }
 
 /// All records but that of the identifier stay.
