@@ -1,5 +1,5 @@
 //! A core in the turn of one of its actors, for which it is a World.
-ghost use Rattle.std.specs.Prelude.{◌≡◌, None, ◌<◌, ◌≤◌, ◌-◌, ◌^◌, IfOk, length};
+ghost use Rattle.std.specs.Prelude.{◌≡◌, None, ◌<◌, ◌≤◌, ◌-◌, ◌^◌, IfOk, IsTrue, length};
 ghost use Rattle.mi_base.specs.Configuration.{metric_space};
 ghost use Rattle.mi_base.specs.Space.{IsMetric};
 ghost use Rattle.mi_board.specs.Boards.{cells_in};
@@ -7,9 +7,10 @@ ghost use Rattle.mi_core.specs.Counted.{total};
 ghost use Rattle.mi_core.specs.Events.{opened};
 ghost use Rattle.mi_core.specs.Events.Event.{see};
 ghost use Rattle.mi_core.specs.Kept.{Kept};
-ghost use Rattle.mi_solo.specs.Sections.{Pins};
+ghost use Rattle.mi_solo.specs.Sections.{Pins, Trims};
+ghost use Rattle.mi_world.specs.Pages as pages;
 ghost use Rattle.mi_solo.specs.States.{Does, IsGoing, actor_in, state_of};
-ghost use Rattle.mi_solo.specs.Solos.{MayTurn, entries_on};
+ghost use Rattle.mi_solo.specs.Solos.{MayTurn, Section, entries_on, view_of};
 
 use crate::cores::Core;
 use mi_base::{Dists, Id, LogEvent, NoMemory, Perm, Position, Settings, Steps, Vector};
@@ -235,7 +236,13 @@ impl World for Solo {
         self.core.sweep(self.turn, page)
     }
 
-    fn trim(&mut self, page: u32) -> Visit {
+    fn trim(&mut self, page: u32) -> Visit
+        requires named { IsTrue ((view_of self.old).named page) }
+        requires leaf { (view_of self.old).level page ≡ 0 }
+        ensures told { pages.Trims (view_of self.old) (view_of self.new) page result }
+        ensures section { Section self.old self.new }
+        ensures event { Trims self.old.state self.old.turn page result self.new.state }
+    {
         self.core.trim(self.turn, page)
     }
 

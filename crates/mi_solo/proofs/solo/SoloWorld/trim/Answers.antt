@@ -1,6 +1,7 @@
 use Rattle.std.proofs.Common.{IsTrue, subst, sym}
 use Rattle.mi_solo.specs.Solos.{SoloState}
-use Rattle.mi_solo.specs.States.{is_linked}
+use Rattle.mi_solo.specs.Sections.{Trims}
+use Rattle.mi_solo.specs.States.{is_linked, state_of}
 use Rattle.mi_solo.proofs.PageAnswers.{answer_trim}
 use Rattle.mi_solo.proofs.SoloLemmas.{section_at, stays_so, told_at}
 use Rattle.mi_solo.proofs.solo.SoloWorld.trim.Goals as goal
@@ -25,3 +26,9 @@ returns-clause-section c =
     let d = c.trim.new.self in
     let x = answer_trim s.core d s.turn c.self.invariant.0 c.self.invariant.1 c.args.page (subst (λ (t : SoloState). IsTrue (is_linked t.state c.args.page)) (sym c.self.view_is) c.requires.named) c.trim.result c.trim.ensures in
     section_at s.core d s.turn x c.self.invariant.0 c.self.invariant.1 c.args.self.now c.self.view_is
+
+pub returns-clause-event : goal.returns-clause-event
+returns-clause-event c =
+    let s = c.self.inside in
+    let d = c.trim.new.self in
+    subst (λ (t : SoloState). Trims t.state t.turn c.args.page c.trim.result (state_of d)) c.self.view_is c.trim.ensures
