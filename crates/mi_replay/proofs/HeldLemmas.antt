@@ -24,10 +24,10 @@ found_there a (Some b) h =
     ]) h.is
 
 module _ (s : State) (a : ℕ) (r : Actor) where
-  shard_held : (id : ℕ) → HeldShard id (shown_to s a r) → IsOther (shard_at s.shards (home id)).holder a
+  pub shard_held : (id : ℕ) → HeldShard id (shown_to s a r) → IsOther (shard_at s.shards (home id)).holder a
   shard_held id h = subst (λ k. IsOther (shard_at s.shards k).holder a) h.tried (found_there a (shard_at s.shards r.tried).holder h.other)
 
-  leaf_held : (vector : List ℤ) → seen.LeafIsHeld vector (shown_to s a r) → LeafIsClaimed s a vector
+  pub leaf_held : (vector : List ℤ) → seen.LeafIsHeld vector (shown_to s a r) → LeafIsClaimed s a vector
   leaf_held vector h = record { prefix = h.prefix; belongs = h.belongs; other = h.other }
 
   pub held_there : (o : Op) → IsHeld o (shown_to s a r) → ShardIsHeld s a o ⊎ LeafIsHeld s a o

@@ -12,10 +12,11 @@ use Rattle.mi_base.specs.declared.records.Update.TheVariants as update
 use Rattle.mi_base.specs.Configuration.{Configuration}
 use Rattle.mi_base.specs.History.{updates_of}
 use Rattle.mi_base.proofs.HistoryLemmas.{updates_of-append}
-use Rattle.mi_core.specs.Events.{Event}
+use Rattle.mi_core.specs.Events.{Event, after}
 use Rattle.mi_core.specs.Events.Event.{see}
 use Rattle.mi_core.specs.Kept.{Kept}
 use Rattle.mi_core.specs.State.{State}
+use Rattle.mi_core.proofs.FrameEvents.{told_stays}
 use Rattle.mi_core.proofs.KeptEvents.{each_keeps}
 use Rattle.mi_core.proofs.LaterEvents.{event_leads_on}
 use Rattle.mi_job.specs.Jobs.{is_query}
@@ -29,62 +30,75 @@ use Rattle.mi_update.specs.Stepping.{number_told}
 use Rattle.mi_replay.specs.Turns.{Chained, ComesTo, EntersBetween, Goes, LeadsBy, Makes, Operation, Turn, entry}
 
 -- what is so of a state that comes later in a run
-record Later (s t : State) : Type 0 where
-  kept : Kept t
-  grows : Grows s.board.log t.board.log
+pub record Later (s t : State) : Type 0 where
+  pub kept : Kept t
+  pub settings : t.board.settings ≡ s.board.settings
+  pub grows : Grows s.board.log t.board.log
+  pub full : s.board.allotted ≡ s.board.settings.pages → t.board.allotted ≡ t.board.settings.pages
 
-later_none : (s : State) → Kept s → Later s s
-later_none s k = record { kept = k; grows = grows_none s.board.log }
+pub later_none : (s : State) → Kept s → Later s s
+later_none s k = record { kept = k; settings = refl; grows = grows_none s.board.log; full = λ e. e }
 
-later_on : (s m t : State) → Later s m → Later m t → Later s t
-later_on s m t h k = record { kept = k.kept; grows = grows_on s.board.log m.board.log t.board.log h.grows k.grows }
+pub later_on : (s m t : State) → Later s m → Later m t → Later s t
+later_on s m t h k = record {
+  kept = k.kept;
+  settings = k.settings ∙ h.settings;
+  grows = grows_on s.board.log m.board.log t.board.log h.grows k.grows;
+  full = λ e. k.full (h.full e);
+}
 
-later_led : (e : Event) (s : State) (a : ℕ) (t : State) → Kept s → LeadsBy e s a t → Later s t
+pub later_led : (e : Event) (s : State) (a : ℕ) (t : State) → Kept s → LeadsBy e s a t → Later s t
 later_led e s a t k m =
     let l = m.0 in
     let on = event_leads_on l.event s k.sound a l.actor l.there l.can in
-    subst (Later s) (sym l.is) (record { kept = each_keeps l.event s k a l.actor l.there l.going l.can; grows = record { by = on.more; is = on.log } })
+    let kept = each_keeps l.event s k a l.actor l.there l.going l.can in
+    subst (Later s) (sym l.is) (record {
+      kept = kept;
+      settings = on.settings;
+      grows = record { by = on.more; is = on.log };
+      full = told_stays s (after s a l.actor l.event) k.sound kept.sound on;
+    })
 
-later_come : (s : State) (a : ℕ) (m : State) → Kept s → ComesTo s a m → Later s m
+pub later_come : (s : State) (a : ℕ) (m : State) → Kept s → ComesTo s a m → Later s m
 later_come s a m k h = elim h [ inl same ↦ subst (Later s) (sym same) (later_none s k) | inr sees ↦ later_led see s a m k sees ]
 
-later_gone : (e : Option Event) (s : State) (a : ℕ) (t : State) → Kept s → Goes e s a t → Later s t
+pub later_gone : (e : Option Event) (s : State) (a : ℕ) (t : State) → Kept s → Goes e s a t → Later s t
 later_gone None s a t k m = subst (Later s) (sym m) (later_none s k)
 later_gone (Some e) s a t k m = later_led e s a t k m
 
-later_turn : (e : Option Event) (s : State) (a : ℕ) (t : State) → Kept s → Makes e s a t → Later s t
+pub later_turn : (e : Option Event) (s : State) (a : ℕ) (t : State) → Kept s → Makes e s a t → Later s t
 later_turn e s a t k m =
     let come = later_come s a m.between k m.comes in
     later_on s m.between t come (later_gone e m.between a t come.kept m.goes)
 
-later_head : (s : State) (u : Turn) (us : List Turn) (t : State) → Kept s → Chained s (u ∷ us) t → Later s u.after
+pub later_head : (s : State) (u : Turn) (us : List Turn) (t : State) → Kept s → Chained s (u ∷ us) t → Later s u.after
 later_head s u us t k h = later_turn u.event s u.actor u.after k (subst (λ x. Makes u.event x u.actor u.after) h.0 h.1)
 
-later_all : (s : State) (us : List Turn) (t : State) → Kept s → Chained s us t → Later s t
+pub later_all : (s : State) (us : List Turn) (t : State) → Kept s → Chained s us t → Later s t
 later_all s [] t k h = subst (Later s) h (later_none s k)
 later_all s (u ∷ us) t k h =
     let l = later_head s u us t k h in
     later_on s u.after t l (later_all u.after us t l.kept h.2)
 
-some_turn : (u v : Turn) → Some u ≡ Some v → u ≡ v
+pub some_turn : (u v : Turn) → Some u ≡ Some v → u ≡ v
 some_turn u v e = cc
 
 module _ (t : State) where
   -- from the first state to a turn of the run, and from there to the last state
-  later_before : (s : State) (turns : List Turn) (i : ℕ) (u : Turn) → Kept s → Chained s turns t → slice_get turns i ≡ Some u → Later s u.before
+  pub later_before : (s : State) (turns : List Turn) (i : ℕ) (u : Turn) → Kept s → Chained s turns t → slice_get turns i ≡ Some u → Later s u.before
   later_before s [] i u k h at = absurd (omega (arith, slice_get_within ([]) i u at))
   later_before s (v ∷ us) zero u k h at = subst (λ (x : Turn). Later s x.before) (some_turn v u at) (subst (Later s) (sym h.0) (later_none s k))
   later_before s (v ∷ us) (suc i) u k h at =
       let l = later_head s v us t k h in
       later_on s v.after u.before l (later_before v.after us i u l.kept h.2 at)
 
-  later_after : (s : State) (turns : List Turn) (i : ℕ) (u : Turn) → Kept s → Chained s turns t → slice_get turns i ≡ Some u → Later u.after t
+  pub later_after : (s : State) (turns : List Turn) (i : ℕ) (u : Turn) → Kept s → Chained s turns t → slice_get turns i ≡ Some u → Later u.after t
   later_after s [] i u k h at = absurd (omega (arith, slice_get_within ([]) i u at))
   later_after s (v ∷ us) zero u k h at = subst (λ (x : Turn). Later x.after t) (some_turn v u at) (later_all v.after us t (later_head s v us t k h).kept h.2)
   later_after s (v ∷ us) (suc i) u k h at = later_after v.after us i u (later_head s v us t k h).kept h.2 at
 
   -- from a turn to a later one
-  later_between : (s : State) (turns : List Turn) (i j : ℕ) (u v : Turn) → Kept s → Chained s turns t → slice_get turns i ≡ Some u → slice_get turns j ≡ Some v → i < j → Later u.after v.before
+  pub later_between : (s : State) (turns : List Turn) (i j : ℕ) (u v : Turn) → Kept s → Chained s turns t → slice_get turns i ≡ Some u → slice_get turns j ≡ Some v → i < j → Later u.after v.before
   later_between s [] i j u v k h at_u at_v lt = absurd (omega (arith, slice_get_within ([]) i u at_u))
   later_between s (w ∷ us) zero zero u v k h at_u at_v lt = absurd (omega (arith, lt))
   later_between s (w ∷ us) zero (suc j) u v k h at_u at_v lt =

@@ -1,8 +1,8 @@
-pub mod Alone
 pub mod Entries
 pub mod InOrder
 pub mod Moving
 pub mod Outcomes
+pub mod Rounds
 pub mod Seats
 pub mod Settling
 pub mod Splitters

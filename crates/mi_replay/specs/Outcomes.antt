@@ -1,17 +1,26 @@
 -- What a replay of scripts leaves.
-use Rattle.std.specs.Prelude.{◌≡◌, ◌<◌, ◌≤◌, ◌||◌, ◌++◌, Bool, false, List, length}
+use Rattle.std.specs.Prelude.{◌≡◌, ◌<◌, ◌≤◌, ◌||◌, ◌++◌, ℕ, Bool, false, List, length, map, Result}
 use Rattle.std.specs.List.{list_any}
+use Rattle.mi_base.specs.declared.refusals.NoMemory.{NoMemory}
 use Rattle.mi_base.specs.declared.records.Op.{Op}
 use Rattle.mi_base.specs.declared.records.ScheduleItem.{ScheduleItem}
 use Rattle.mi_base.specs.Configuration.{Configuration}
 use Rattle.mi_base.specs.History.{live, updates_of}
+use Rattle.mi_core.specs.Counted.{total}
 use Rattle.mi_core.specs.State.{State}
 use Rattle.mi_legal.specs.Legal.{Legal}
 use Rattle.mi_legal.specs.Want.{has_memory}
+use Rattle.mi_replay.specs.declared.seats.Seat.{Seat}
+use Rattle.mi_replay.specs.declared.splitters.SplitterSeat.{SplitterSeat}
+use Rattle.mi_replay.specs.declared.tables.Table.{Table}
 use Rattle.mi_replay.specs.InOrder.{InOrder}
+use Rattle.mi_replay.specs.Settling.{Settles, is_refused}
 use Rattle.mi_replay.specs.Splitters.{gave_up}
+use Rattle.mi_replay.specs.Turns.{ComesTo}
+use Rattle.mi_solo.specs.Solos.{entries_on}
+use Rattle.mi_solo.specs.States.{actor_in}
 use Rattle.mi_tree.specs.declared.outcomes.Outcome.{Outcome}
-use Rattle.mi_tree.specs.Legal.{Settled}
+use Rattle.mi_tree.specs.Legal.{Settled, cells_of}
 
 -- memory was wanted for a page of some actor
 abbrev pub lacks_page : State → Bool
@@ -31,3 +40,31 @@ pub record Played (c : Configuration) (scripts : List (List Op)) (schedule : Lis
   pub no_fewer : length (live (updates_of o.log)) ≤ o.entries
   pub whole : o.short ≡ false → o.entries ≡ length (live (updates_of o.log))
   pub settled : o.short ≡ false → o.allotted < c.pages → Settled c o.log
+
+-- where actors only come to turns, what they share and what they lack stays
+pub record SameButSeen (s t : State) : Type 0 where
+  pub board : t.board ≡ s.board
+  pub pages : t.pages ≡ s.pages
+  pub actors : length t.actors ≡ length s.actors
+  pub ended : (a : ℕ) → (actor_in t a).ended ≡ (actor_in s a).ended
+  pub lacked : (a : ℕ) → (actor_in t a).lacked ≡ (actor_in s a).lacked
+
+-- the splitter, which is actor n, comes to its turn and settles; the outcome tells of the state after that, of the seats' replies, and of what
+-- was wanted
+pub record IsLeft (n pages : ℕ) (s : State) (seats : List Seat) (x : SplitterSeat) (o : Outcome) : Type 0 where
+  pub before : State
+  pub comes : ComesTo s n before
+  pub result : Result (Unit {0}) NoMemory
+  pub last : State
+  pub settles : Settles n before result last
+  pub log_is : o.log ≡ last.board.log
+  pub cells_are : o.cells ≡ cells_of last.board.settings last.board.log
+  pub entries_are : o.entries ≡ total entries_on last.pages
+  pub allotted_is : o.allotted ≡ last.board.allotted
+  pub limit_is : o.limit ≡ pages
+  pub replies_are : o.replies ≡ map (λ a. a.replies.items) seats
+  pub short_is : o.short ≡ (has_memory o.replies || (lacks_page last || (x.wanted || is_refused result)))
+
+-- the same of a table
+abbrev pub IsLeftBy : ℕ → ℕ → Table → Outcome → Type 0
+IsLeftBy n pages t o = IsLeft n pages t.solo.state t.seats.items t.splitter o

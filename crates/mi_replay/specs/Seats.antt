@@ -1,19 +1,21 @@
 -- A session while its script is run: where it stands after some turns, and what its own turns make of that.
-use Rattle.std.specs.Prelude.{◌≡◌, ◌≢◌, ◌<◌, ◌≤◌, ◌+◌, ◌==◌, ◌&&◌, ◌⊎◌, ℕ, zero, suc, Bool, true, false, cond, List, [], ◌∷◌, ◌++◌, Option, Some, None, MatchOption, is_none, is_some, length, slice_get}
-use Rattle.std.specs.List.{AllByRecursion}
+use Rattle.std.specs.Prelude.{◌≡◌, ◌≢◌, ◌<◌, ◌≤◌, ◌+◌, ◌==◌, ◌&&◌, ◌⊎◌, ℕ, Bool, true, false, List, [], ◌∷◌, ◌++◌, Option, Some, None, MatchOption, is_none, is_some, length, slice_get, vec_capacity}
 use Rattle.mi_base.specs.declared.records.Op.{Op}
-use Rattle.mi_base.specs.declared.records.Reply.{Reply}
 use Rattle.mi_base.specs.Configuration.{Configuration, metric_space, space_of}
 use Rattle.mi_base.specs.History.{Entered}
 use Rattle.mi_base.specs.Scripts.{IsScriptOver}
 use Rattle.mi_base.specs.Space.{Space}
 use Rattle.mi_core.specs.State.{State}
 use Rattle.mi_job.specs.declared.job.Job.{Job}
+use Rattle.mi_job.specs.declared.job.Operation.{Operation}
+use Rattle.mi_job.specs.declared.job.Operation.TheVariants.{Nearest}
 use Rattle.mi_job.specs.declared.turns.JobTurn.{JobTurn}
 use Rattle.mi_job.specs.declared.turns.JobTurn.TheVariants as job
 use Rattle.mi_job.specs.Claims.{ClaimsNone, IsHeld}
-use Rattle.mi_job.specs.Jobs.{Begun, Ready, Since, Turned, asked, is_query, left, number_in, op_number, since_in}
+use Rattle.mi_job.specs.Jobs.{Begun, Ready, Since, Turned, asked, is_query, number_in, op_number, since_in}
 use Rattle.mi_legal.specs.Legal.{accepted_in}
+use Rattle.mi_nearest.specs.declared.nearest.NearestState.{NearestState}
+use Rattle.mi_nearest.specs.declared.nearest.NearestState.TheVariants as near
 use Rattle.mi_solo.specs.Solos.{MayTurn}
 use Rattle.mi_solo.specs.States.{view_in}
 use Rattle.mi_world.specs.View.{View}
@@ -22,16 +24,22 @@ use Rattle.mi_replay.specs.declared.seats.Taken.{Taken}
 use Rattle.mi_replay.specs.declared.seats.Taken.TheVariants.{More, Held, Ended}
 use Rattle.mi_replay.specs.InOrder.{AllBy, BeginsAtOnce, LeafIsHeld, ShardIsHeld}
 use Rattle.mi_replay.specs.Moving.{MakeCalls, Moves}
-use Rattle.mi_replay.specs.Turns.{Turn, Chained, EntersAt, InTurn, IsTurnOf, Operations, busy, ended}
+use Rattle.mi_replay.specs.Turns.{Turn, Chained, ComesTo, EntersAt, InTurn, IsTurnOf, Operations, busy, ended}
 
 -- nothing is under way and nothing is left
 abbrev pub is_over : List Op → Seat → Bool
-is_over script a = is_none a.job && (length a.replies == length script)
+is_over script a = is_none a.job && (length a.replies.items == length script)
+
+-- nothing is under way, nothing was replied, and there is room for so many replies
+pub record IsEmpty (room : ℕ) (a : Seat) : Type 0 where
+  pub none : a.job ≡ None
+  pub empty : a.replies.items ≡ []
+  pub room_is : vec_capacity a.replies ≡ room
 
 -- the operation whose section is next: the one under way, or the next one of the script
 abbrev pub IsNext : Space → List Op → Seat → Option Job → Job → Type 0
 IsNext space script a (Some j) old = old ≡ j
-IsNext space script a None old = (o : Op) × (slice_get script (length a.replies) ≡ Some o) × Begun old o (length a.replies + 1) space
+IsNext space script a None old = (o : Op) × (slice_get script (length a.replies.items) ≡ Some o) × Begun old o (length a.replies.items + 1) space
 
 -- a session waits for its next turn
 abbrev pub WaitsAt : Option Job → View → Type 0
@@ -42,8 +50,9 @@ pub record SeatWaits (s : State) (k : ℕ) (script : List Op) (a : Seat) : Type 
   pub may : MayTurn s k
   pub fits : IsScriptOver (metric_space s.board.settings) script
   pub at : WaitsAt a.job (view_in s k)
-  pub few : length a.replies ≤ length script
-  pub left : a.job ≢ None → length a.replies < length script
+  pub few : length a.replies.items ≤ length script
+  pub left : a.job ≢ None → length a.replies.items < length script
+  pub room : length script ≤ vec_capacity a.replies
 
 -- a section may be made
 pub record SeatReady (s : State) (k : ℕ) (script : List Op) (a : Seat) : Type 0 where
@@ -52,9 +61,14 @@ pub record SeatReady (s : State) (k : ℕ) (script : List Op) (a : Seat) : Type 
 
 -- what a section leaves of the seat
 abbrev pub Leaves : Seat → JobTurn → Taken → Job → Seat → Type 0
-Leaves a job.More r new b = (r ≡ More) × (b ≡ record { job = Some new; replies = a.replies })
-Leaves a job.Held r new b = (r ≡ Held) × (b ≡ record { job = Some new; replies = a.replies })
-Leaves a (job.Done y) r new b = (r ≡ Ended) × (b ≡ record { job = None; replies = a.replies ++ y ∷ [] })
+Leaves a job.More r new b = (r ≡ More) × (b.job ≡ Some new) × (b.replies.items ≡ a.replies.items)
+Leaves a job.Held r new b = (r ≡ Held) × (b.job ≡ Some new) × (b.replies.items ≡ a.replies.items)
+Leaves a (job.Done y) r new b = (r ≡ Ended) × (b.job ≡ None) × (b.replies.items ≡ a.replies.items ++ y ∷ [])
+
+abbrev pub is_more : Taken → Bool
+is_more More = true
+is_more Held = false
+is_more Ended = false
 
 -- one section of a session that isn't over
 pub record SeatTurned (k : ℕ) (script : List Op) (s : State) (a : Seat) (r : Taken) (b : Seat) (t : State) : Type 0 where
@@ -65,12 +79,28 @@ pub record SeatTurned (k : ℕ) (script : List Op) (s : State) (a : Seat) (r : T
   pub turned : Turned old (view_in s k) answer new (view_in t k)
   pub moves : Moves s k t
   pub leaves : Leaves a answer r new b
+  pub room : vec_capacity a.replies ≤ vec_capacity b.replies
+
+-- one turn: the session comes to it and makes one section
+pub record TurnMade (k : ℕ) (script : List Op) (s : State) (a : Seat) (r : Taken) (b : Seat) (t : State) : Type 0 where
+  pub between : State
+  pub comes : ComesTo s k between
+  pub section : SeatTurned k script between a r b t
 
 -- an update was entered in a turn since this place
 pub record EntersSince (turns : List Turn) (k j : ℕ) (o : Op) (first n : ℕ) : Type 0 where
   pub place : ℕ
   pub from : first ≤ place
   pub at : EntersAt turns k j o n place
+
+-- a query for the nearest found no memory, and is to be refused
+abbrev pub refuses_at : NearestState → Bool
+refuses_at near.Refusing = true
+refuses_at state = false
+
+abbrev pub is_refusing : Operation → Bool
+is_refusing (Nearest nearest number) = refuses_at nearest.state
+is_refusing operation = false
 
 -- An operation is under way since its first turn, after so many others have ended; `own` are the session's updates before it.
 pub record IsUnder (turns : List Turn) (s : State) (k : ℕ) (script : List Op) (own : List Entered) (n from : ℕ) (j : Job) : Type 0 where
@@ -84,7 +114,8 @@ pub record IsUnder (turns : List Turn) (s : State) (k : ℕ) (script : List Op) 
   pub owed : ℕ → Bool
   pub early : Bool
   pub since : Since own (length begin.turn.before.board.log) owed early j (view_in s k)
-  pub pinned : is_query (asked j) ≡ true → since_in j (view_in s k) ≡ length begin.turn.after.board.log
+  -- a query's position is that of its first turn, unless it is to be refused for want of memory
+  pub pinned : is_query (asked j) ≡ true → is_refusing j.operation ≡ false → since_in j (view_in s k) ≡ length begin.turn.after.board.log
   pub enters : MatchOption (number_in j) (Unit {0}) (λ m. EntersSince turns k (op_number j) (asked j) first m)
   pub ready : Ready j (view_in s k)
 
@@ -95,11 +126,11 @@ UnderWay turns s k script own n from (Some j) = IsUnder turns s k script own n f
 -- where session k stands after these turns
 pub record SeatAt (c : Configuration) (turns : List Turn) (s : State) (k : ℕ) (script : List Op) (a : Seat) : Type 0 where
   pub to : ℕ
-  pub done : Operations c turns k 1 0 to script a.replies
+  pub done : Operations c turns k 1 0 to script a.replies.items
   pub within : to ≤ length turns
-  pub under : UnderWay turns s k script (accepted_in k 1 script a.replies) (length a.replies) to a.job
+  pub under : UnderWay turns s k script (accepted_in k 1 script a.replies.items) (length a.replies.items) to a.job
   pub busy_is : busy k turns ≡ is_some a.job
-  pub ended_is : ended k turns ≡ length a.replies
+  pub ended_is : ended k turns ≡ length a.replies.items
   pub in_turn : InTurn k false turns
 
 -- What session k made of a block: its turns, and where it stands after them, whatever came before.
@@ -136,7 +167,7 @@ pub record Going (k : ℕ) (script : List Op) (s : State) (a : Seat) (r : Taken)
   pub is : Made k script s a t b made
   pub head : a.job ≡ None → BeginsAtOnce made
   pub stops : StopsBy r k t b made
-  pub replies : length b.replies ≡ length a.replies + ended_by r
+  pub replies : length b.replies.items ≡ length a.replies.items + ended_by r
 
 -- a block of one operation: nothing is left, or one has ended or is held up
 abbrev pub OperationMade : ℕ → List Op → State → Seat → State → Seat → Type 0

@@ -2,21 +2,25 @@
 use Rattle.std.specs.Prelude.{◌≡◌, ◌<◌, ◌≤◌, ◌||◌, ℕ, Bool, true, false, List, ◌++◌, Some, None, Result, Ok, Err, length, slice_get}
 use Rattle.mi_base.specs.declared.refusals.NoMemory.{NoMemory}
 use Rattle.mi_base.specs.History.{live, updates_of}
+use Rattle.mi_board.specs.Boards.{floor_of}
+use Rattle.mi_core.specs.Kept.{Kept}
 use Rattle.mi_core.specs.State.{State}
 use Rattle.mi_entries.specs.Actors.{Actor}
 use Rattle.mi_job.specs.Claims.{ClaimsNone}
 use Rattle.mi_replay.specs.declared.splitters.SplitterSeat.{SplitterSeat}
-use Rattle.mi_replay.specs.InOrder.{AllBy, entry_count}
+use Rattle.mi_replay.specs.Entries.{IsTrimmed}
+use Rattle.mi_replay.specs.InOrder.{AllBy, IsIdle, entry_count}
 use Rattle.mi_replay.specs.Moving.{MakeCalls}
-use Rattle.mi_replay.specs.Splitters.{SplitterAt}
+use Rattle.mi_replay.specs.Splitters.{SplitterAt, SplitterMade}
 use Rattle.mi_replay.specs.Turns.{Turn, Chained}
 use Rattle.mi_solo.specs.Solos.{MayTurn}
-use Rattle.mi_solo.specs.States.{view_in}
+use Rattle.mi_solo.specs.States.{actor_in, view_in}
 use Rattle.mi_tree.specs.Growing.{GrowsBySplits}
 use Rattle.mi_tree.specs.Legal.{Settled}
 
--- nobody claims a leaf, sweeps or splits one, or has a pin
+-- nobody holds a shard, claims a leaf, sweeps or splits one, or has a pin
 pub record HoldsNothing (r : Actor) : Type 0 where
+  pub shard : r.shard ≡ None
   pub claim : r.claim ≡ None
   pub sweep : r.sweep ≡ None
   pub split : r.split ≡ None
@@ -50,3 +54,34 @@ pub record Settles (a : ℕ) (s : State) (result : Result (Unit {0}) NoMemory) (
   pub may : MayTurn t a
   pub claims : ClaimsNone (view_in t a)
   pub leaves : LeavesSettled result t
+
+-- the splitter with nothing under way
+abbrev pub resting : Bool → SplitterSeat
+resting wanted = record { care = record { task = None }; wanted = wanted }
+
+-- the last answer of operations that were made until there was nothing to do
+abbrev pub EndsIdle : Result (Unit {0}) NoMemory → ℕ → State → Type 0
+EndsIdle (Ok _) a t = IsIdle t.board × ((actor_in t a).floor ≡ floor_of t.board)
+EndsIdle (Err e) a t = Unit {0}
+
+-- operations of the splitter until there was nothing to do, or memory was wanted
+pub record WorksOff (a : ℕ) (s : State) (result : Result (Unit {0}) NoMemory) (t : State) : Type 0 where
+  pub made : List Turn
+  pub is : (wanted : Bool) → SplitterMade a s (resting wanted) t (resting (wanted || is_refused result)) made
+  pub grows : GrowsBySplits s.board.log t.board.log
+  pub kept : Kept t
+  pub rest : IsAtRest t
+  pub ends : EndsIdle result a t
+
+-- turns that trim leaf pages, with no operation under way
+pub record TrimsAll (a : ℕ) (s t : State) : Type 0 where
+  pub made : List Turn
+  pub chained : Chained s made t
+  pub by : AllBy a made
+  pub calls : MakeCalls made
+  pub at : (turns : List Turn) (x : SplitterSeat) → SplitterAt turns s a x → SplitterAt (turns ++ made) t a x
+  pub board : t.board ≡ s.board
+  pub may : MayTurn t a
+  pub kept : Kept t
+  pub rest : IsAtRest t
+  pub trimmed : IsTrimmed t

@@ -8,9 +8,11 @@ use Rattle.mi_base.specs.declared.records.Take.{Take}
 use Rattle.mi_base.specs.declared.records.Take.TheVariants as take
 use Rattle.mi_base.specs.Configuration.{Configuration}
 use Rattle.mi_core.specs.Events.{opened}
+use Rattle.mi_core.specs.Kept.{Kept}
 use Rattle.mi_core.specs.State.{State}
 use Rattle.mi_replay.specs.declared.seats.Seat.{Seat}
 use Rattle.mi_replay.specs.declared.splitters.SplitterSeat.{SplitterSeat}
+use Rattle.mi_replay.specs.declared.tables.Table.{Table}
 use Rattle.mi_replay.specs.InOrder.{Blocks, rounds}
 use Rattle.mi_replay.specs.Seats.{SeatAt, SeatWaits, is_over}
 use Rattle.mi_replay.specs.Splitters.{SplitterAt, SplitterWaits}
@@ -18,6 +20,7 @@ use Rattle.mi_replay.specs.Turns.{Turn}
 
 -- each may make its next turn
 pub record TableWaits (scripts : List (List Op)) (s : State) (seats : List Seat) (x : SplitterSeat) : Type 0 where
+  pub kept : Kept s
   pub count : length seats ≡ length scripts
   pub actors : length s.actors ≡ length scripts + 1
   pub each : (j : ℕ) (os : List Op) (a : Seat) → slice_get scripts j ≡ Some os → slice_get seats j ≡ Some a → SeatWaits s j os a
@@ -43,6 +46,7 @@ pub record Ran (c : Configuration) (scripts : List (List Op)) (items : List Sche
 -- more items: whatever was made before, their blocks are made
 pub record ItemsMade (scripts : List (List Op)) (items : List ScheduleItem) (s : State) (seats : List Seat) (x : SplitterSeat) (t : State) (others : List Seat) (y : SplitterSeat) : Type 0 where
   pub on : (c : Configuration) (earlier : List ScheduleItem) → Ran c scripts earlier s seats x → Ran c scripts (earlier ++ items) t others y
+  pub settings : t.board.settings ≡ s.board.settings
   pub waits : TableWaits scripts t others y
 
 abbrev pub ItemMade : List (List Op) → Actor → Take → State → List Seat → SplitterSeat → State → List Seat → SplitterSeat → Type 0
@@ -75,3 +79,28 @@ pub record Finished (c : Configuration) (scripts : List (List Op)) (schedule : L
   pub ran : Ran c scripts (schedule ++ rounds (length scripts) many) s seats x
   pub over : AllOver scripts seats
   pub rests : x.care.task ≡ None
+
+-- the same of a table
+abbrev pub settings_of : Table → Configuration
+settings_of t = t.solo.state.board.settings
+
+abbrev pub Waits : List (List Op) → Table → Type 0
+Waits scripts t = TableWaits scripts t.solo.state t.seats.items t.splitter
+
+abbrev pub HasRun : Configuration → List (List Op) → List ScheduleItem → Table → Type 0
+HasRun c scripts items t = Ran c scripts items t.solo.state t.seats.items t.splitter
+
+abbrev pub Makes : List (List Op) → List ScheduleItem → Table → Table → Type 0
+Makes scripts items t u = ItemsMade scripts items t.solo.state t.seats.items t.splitter u.solo.state u.seats.items u.splitter
+
+abbrev pub MakesOne : List (List Op) → Actor → Take → Table → Table → Type 0
+MakesOne scripts actor taken t u = Makes scripts (record { actor = actor; take = taken } ∷ []) t u
+
+abbrev pub IsOver : List (List Op) → Table → Type 0
+IsOver scripts t = AllOver scripts t.seats.items × (t.splitter.care.task ≡ None)
+
+abbrev pub IsNotOver : List (List Op) → Table → Type 0
+IsNotOver scripts t = NotOver scripts t.seats.items t.splitter
+
+abbrev pub HasFinished : Configuration → List (List Op) → List ScheduleItem → Table → Type 0
+HasFinished c scripts schedule t = Finished c scripts schedule t.solo.state t.seats.items t.splitter

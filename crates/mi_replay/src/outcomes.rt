@@ -1,0 +1,222 @@
+//! What scripts after a schedule leave.
+ghost use Rattle.std.specs.Prelude.{◌≡◌, ◌<◌, ◌≤◌, ◌+◌, ◌||◌, ℕ, IfOk, false, length, map};
+ghost use Rattle.std.specs.List.{AllByRecursion, list_any};
+ghost use Rattle.mi_base.specs.Configuration.{metric_space};
+ghost use Rattle.mi_base.specs.Scripts.{IsScriptOver};
+ghost use Rattle.mi_base.specs.Space.{IsMetric};
+ghost use Rattle.mi_legal.specs.Want.{has_memory, is_memory};
+ghost use Rattle.mi_replay.specs.Outcomes.{IsLeftBy, Played, SameButSeen, lacks_page};
+ghost use Rattle.mi_replay.specs.Settling.{is_refused};
+ghost use Rattle.mi_replay.specs.Tables.{IsItemOver, IsOver, Waits};
+ghost use Rattle.mi_solo.specs.States.{actor_in};
+
+use crate::replaying::finished;
+use crate::seats::Seat;
+use crate::settling::settle;
+use crate::splitters::SplitterSeat;
+use crate::tables::Table;
+use mi_base::{
+    Log, LogEvent, NoMemory, Replies, Reply, Schedule, Script, Settings, Steps, Transcript, Update,
+};
+use mi_metric::Metric;
+use mi_perm::Pivots;
+use mi_solo::Solo;
+use mi_tree::{Catalog, Leaves, Outcome};
+use mi_world::World;
+use std::alloc::Global;
+use std::marker::Brand;
+use std::sync::ledger::{Blank, Ledger};
+
+/// Runs scripts after a schedule on one thread, on an empty index: the schedule's turns, then
+/// rounds in which each session in ascending number and then the splitter finish one operation,
+/// until all scripts have ended, and then the splitter alone until all leaves are settled.
+pub fn replay<M: Metric>(
+    alloc: Global,
+    settings: &Settings,
+    metric: &M,
+    pivots: &Pivots,
+    scripts: &[Script],
+    schedule: &Schedule,
+) -> Result<Outcome, NoMemory>
+    requires space { M.space metric.now ≡ metric_space settings.now }
+    requires metric { IsMetric (metric_space settings.now) }
+    requires pivots { pivots.now ≡ settings.now.pivots }
+    requires few { length scripts.now ≤ 16 }
+    requires scripts { AllByRecursion (IsScriptOver (metric_space settings.now)) scripts.now }
+    requires schedule { AllByRecursion (IsItemOver (length scripts.now)) schedule.now }
+    ensures { IfOk result (Played settings.now scripts.now schedule.now) }
+{
+    let blank = Blank::new(1);
+    replay_with::<M, Brand>(alloc, settings, metric, pivots, scripts, schedule, blank)
+}
+
+/// The same with the counter of steps that this blank opens.
+fn replay_with<M: Metric, L: Ledger>(
+    alloc: Global,
+    settings: &Settings,
+    metric: &M,
+    pivots: &Pivots,
+    scripts: &[Script],
+    schedule: &Schedule,
+    blank: Blank,
+) -> Result<Outcome, NoMemory>
+    requires name { blank.name ≡ L.name }
+    requires parts { blank.parts ≡ L.parts }
+    requires some { 0 < blank.parts }
+    requires space { M.space metric.now ≡ metric_space settings.now }
+    requires metric { IsMetric (metric_space settings.now) }
+    requires pivots { pivots.now ≡ settings.now.pivots }
+    requires few { length scripts.now ≤ 16 }
+    requires scripts { AllByRecursion (IsScriptOver (metric_space settings.now)) scripts.now }
+    requires schedule { AllByRecursion (IsItemOver (length scripts.now)) schedule.now }
+    ensures { IfOk result (Played settings.now scripts.now schedule.now) }
+{
+    let mut steps = Steps::<L>::new(blank);
+    let table = finished(
+        alloc, settings, metric, pivots, scripts, schedule, &mut steps,
+    )?;
+    outcome(alloc, table, scripts, settings.pages)
+}
+
+/// The outcome where all scripts have ended: the splitter settles all leaves first.
+fn outcome(alloc: Global, table: Table, scripts: &[Script], pages: u32) -> Result<Outcome, NoMemory>
+    requires few { length scripts.now ≤ 16 }
+    requires waits { Waits scripts.now table }
+    requires over { IsOver scripts.now table }
+    ensures { IfOk result (IsLeftBy (length scripts.now) pages table) }
+{
+    let Table {
+        mut solo,
+        seats,
+        splitter,
+    } = table;
+    let actor = scripts.len() as u32;
+    solo.turn_to(actor);
+    let settled = settle(alloc, &mut solo);
+    let unsettled = lacks_split(&splitter, &settled);
+    let replies = transcript(alloc, seats)?;
+    let log = copy_log(alloc, solo.log())?;
+    let cells = copy_cells(alloc, solo.catalog())?;
+    let entries = solo.entries();
+    let allotted = solo.allotted();
+    let lacked = lacks_page(&mut solo, actor + 1);
+    Ok(Outcome {
+        short: is_short(&replies, lacked, unsettled),
+        replies,
+        log,
+        cells,
+        entries,
+        allotted,
+        limit: pages,
+    })
+}
+
+/// The replies of all seats.
+fn transcript(alloc: Global, seats: Vec<Seat>) -> Result<Transcript, NoMemory>
+    ensures { IfOk result (λ replies. replies ≡ map (λ a. a.replies.items) seats.items) }
+{
+    let mut replies = Transcript::with_room(alloc, seats.len())?;
+    for seat in seats {
+        replies.push(seat.into_replies())?;
+    }
+    Ok(replies)
+}
+
+/// The same events again.
+fn copy_log(alloc: Global, events: &[LogEvent]) -> Result<Log, NoMemory>
+    ensures { IfOk result (λ log. log ≡ events.now) }
+{
+    let mut log = Log::with_room(alloc, events.len())?;
+    for event in events {
+        log.push(copy_event(event))?;
+    }
+    Ok(log)
+}
+
+fn copy_event(event: &LogEvent) -> LogEvent
+    ensures { result ≡ event.now }
+{
+    match event {
+        LogEvent::Update {
+            session,
+            op,
+            update,
+        } => LogEvent::Update {
+            session: *session,
+            op: *op,
+            update: copy_update(update),
+        },
+        LogEvent::Split { prefix } => LogEvent::Split {
+            prefix: prefix.copy(),
+        },
+    }
+}
+
+fn copy_update(update: &Update) -> Update
+    ensures { result ≡ update.now }
+{
+    match update {
+        Update::Insert { id, vector } => Update::Insert {
+            id: *id,
+            vector: vector.copy(),
+        },
+        Update::Delete { id } => Update::Delete { id: *id },
+    }
+}
+
+/// The leaves of the catalog again.
+fn copy_cells(alloc: Global, catalog: &Catalog) -> Result<Leaves, NoMemory>
+    ensures { IfOk result (λ cells. cells ≡ catalog.now.leaves) }
+{
+    let mut cells = Leaves::with_room(alloc, catalog.len())?;
+    for place in 0..catalog.len() {
+        cells.push(catalog.leaf(place).copy())?;
+    }
+    Ok(cells)
+}
+
+/// An answer is missing for want of memory, or a page, or a split was given up.
+fn is_short(replies: &Transcript, lacked: bool, unsettled: bool) -> bool
+    ensures { result ≡ (has_memory replies.now || (lacked || unsettled)) }
+{
+    lacks_answer(replies) || lacked || unsettled
+}
+
+/// A split was given up for want of memory, while scripts ran or after.
+fn lacks_split(splitter: &SplitterSeat, settled: &Result<(), NoMemory>) -> bool
+    ensures { result ≡ (splitter.now.wanted || is_refused settled.now) }
+{
+    splitter.wants_memory() || settled.is_err()
+}
+
+/// An answer is missing for want of memory.
+fn lacks_answer(replies: &Transcript) -> bool
+    ensures { result ≡ has_memory replies.now }
+{
+    replies.as_slice().iter().any(|list| lacks_one(list))
+}
+
+fn lacks_one(replies: &Replies) -> bool
+    ensures { result ≡ list_any is_memory replies.now }
+{
+    replies
+        .as_slice()
+        .iter()
+        .any(|reply| matches!(reply, Reply::Memory))
+}
+
+/// Memory was wanted for a page of one of the actors, which are so many. Each comes to its turn.
+fn lacks_page(solo: &mut Solo, actors: u32) -> bool
+    requires all { actors ≡ length solo.old.state.actors }
+    requires going { (a : ℕ) → a < actors → (actor_in solo.old.state a).ended ≡ false }
+    ensures result { result ≡ lacks_page solo.old.state }
+    ensures same { SameButSeen solo.old.state solo.new.state }
+{
+    for actor in 0..actors {
+        solo.turn_to(actor);
+        if solo.lacked() {
+            return true;
+        }
+    }
+    false
+}
