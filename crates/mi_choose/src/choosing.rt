@@ -1,7 +1,7 @@
 //! The choice of objects that are far apart.
 ghost use Rattle.std.specs.Prelude.{◌≡◌, ◌+◌, ◌*◌, ◌<◌, ◌≤◌, ℕ, ℤ, List, [], All, length, map, IfOk, IsTrue};
 ghost use Rattle.std.specs.List.{AllByRecursion};
-ghost use Rattle.mi_base.specs.declared.limits.TheConstants.{MAX_PIVOTS, MAX_UPDATES};
+ghost use Rattle.mi_base.specs.declared.limits.TheConstants.{MAX_OPS, MAX_PIVOTS};
 ghost use Rattle.mi_choose.specs.Covering.{cover_of, from_nearest};
 ghost use Rattle.mi_choose.specs.Farthest.{IsFarthestFirst, chosen_after, objects_at};
 
@@ -35,7 +35,7 @@ fn choose_places<M: Metric, L: Ledger>(
     steps: &mut Steps<L>,
 ) -> Result<Places, NoMemory>
     requires objects { AllByRecursion (λ v. IsTrue ((M.space metric.now).fits v)) objects.now }
-    requires few { length objects.now ≤ MAX_UPDATES }
+    requires few { length objects.now ≤ MAX_OPS }
     requires none { distances.old ≡ map (from_nearest (M.space metric.now) []) objects.now }
     ensures chosen { IfOk result (λ chosen. chosen ≡ chosen_after (M.space metric.now) objects.now count []) }
     ensures distances { IfOk result (λ chosen. distances.new ≡ map (from_nearest (M.space metric.now) (objects_at objects.now chosen)) objects.now) }
@@ -64,7 +64,7 @@ pub fn choose<M: Metric, L: Ledger>(
     steps: &mut Steps<L>,
 ) -> Result<Choice, NoMemory>
     requires objects { AllByRecursion (λ v. IsTrue ((M.space metric.now).fits v)) objects.now }
-    requires few { length objects.now ≤ MAX_UPDATES }
+    requires few { length objects.now ≤ MAX_OPS }
     requires some { 1 ≤ count }
     requires most { count ≤ MAX_PIVOTS }
     ensures choice { IfOk result (IsFarthestFirst (M.space metric.now) objects.now count) }

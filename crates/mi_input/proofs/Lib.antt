@@ -3,6 +3,7 @@ pub mod EachLemmas
 pub mod PivotLaws
 pub mod RecordLemmas
 pub mod RunLemmas
+pub mod ScheduleLemmas
 pub mod ScriptLaws
 pub mod ScriptLemmas
 pub mod TableLemmas

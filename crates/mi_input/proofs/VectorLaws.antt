@@ -33,7 +33,7 @@ bounded_ok least most (Some n) z h = elim (chosen (int_le least n && int_le n mo
   | inr outside ↦ cc outside.1
 ]
 
-whole_ok : (least most : ℤ) (field : List ℕ) (z : ℤ) → whole_in least most field ≡ Ok z → (least ≤ℤ z) × (z ≤ℤ most)
+pub whole_ok : (least most : ℤ) (field : List ℕ) (z : ℤ) → whole_in least most field ≡ Ok z → (least ≤ℤ z) × (z ≤ℤ most)
 unfolding whole_in
 whole_ok least most field z h = bounded_ok least most (number_in field) z h
 

@@ -25,8 +25,6 @@ pub enum Reason {
     Extra,
     /// The file is too large. No reader answers it.
     Large,
-    /// The record has a form that can't be read yet.
-    Unbuilt,
 }
 
 /// Why a file was refused: the number of its first bad record, from 1, with the reason, or want of memory.

@@ -26,9 +26,9 @@ fn natural(field: &[u8]) -> Option<u128>
     Some(value)
 }
 
-// A number with one sign or none.
+/// A number with one sign or none.
 #[tactic(auto, unfolding(crate::specs::Numbers::number_in))]
-fn number(field: &[u8]) -> Option<i128>
+pub(crate) fn number(field: &[u8]) -> Option<i128>
     ensures { result ≡ number_in field.now }
 {
     match field {

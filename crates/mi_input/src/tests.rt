@@ -1,5 +1,5 @@
 use super::*;
-use mi_base::{MetricKind, Op, Script, Settings};
+use mi_base::{Actor, MetricKind, Op, Schedule, Script, Settings, Take};
 use std::alloc::Global;
 use std::test::*;
 
@@ -372,19 +372,133 @@ fn good_settings(rt: HostRuntime) -> Result<(), Fail> {
     Ok(())
 }
 
+/// Schedules for three sessions, how many items they have, and the last one.
+static GOOD_SCHEDULES: [(&[u8], usize, Actor, Take); 7] = [
+    (b"0,op\n", 1, Actor::Session { number: 0 }, Take::Operation),
+    (
+        b"-0,\"op\"\n",
+        1,
+        Actor::Session { number: 0 },
+        Take::Operation,
+    ),
+    (
+        b"0,op\n2,op",
+        2,
+        Actor::Session { number: 2 },
+        Take::Operation,
+    ),
+    (
+        b"+01,1\n",
+        1,
+        Actor::Session { number: 1 },
+        Take::Turns { count: 1 },
+    ),
+    (
+        b"1,1000000\n",
+        1,
+        Actor::Session { number: 1 },
+        Take::Turns { count: 1_000_000 },
+    ),
+    (b"splitter,op\n", 1, Actor::Splitter, Take::Operation),
+    (
+        b"2,op\n\nsplitter,+7\r\n",
+        2,
+        Actor::Splitter,
+        Take::Turns { count: 7 },
+    ),
+];
+
+fn is_last(schedule: &Schedule, actor: Actor, take: Take) -> bool {
+    match schedule.as_slice().last() {
+        Some(item) => item.actor == actor && item.take == take,
+        None => false,
+    }
+}
+
 #[test]
-fn schedules(rt: HostRuntime) -> Result<(), Fail> {
-    let schedule = read_schedule(rt.alloc(), b"\n\n", 1)
-        .ok()
-        .ok_or("the schedule is good")?;
-    assert!(rt; schedule.is_empty());
+fn good_schedules(rt: HostRuntime) -> Result<(), Fail> {
+    for (text, count, actor, take) in &GOOD_SCHEDULES {
+        let schedule = read_schedule(rt.alloc(), text, 3)
+            .ok()
+            .ok_or("the schedule is good")?;
+        assert_eq!(rt; schedule.len(), *count);
+        assert!(rt; is_last(&schedule, *actor, *take));
+    }
+    for text in [&b""[..], b"\n\n"] {
+        let schedule = read_schedule(rt.alloc(), text, 1)
+            .ok()
+            .ok_or("the schedule is good")?;
+        assert!(rt; schedule.is_empty());
+    }
+    Ok(())
+}
+
+static BAD_SCHEDULES: [(&[u8], u32, Reason); 22] = [
+    (b"\"\"\n", 1, Reason::Word),
+    (b"x,op\n", 1, Reason::Word),
+    (b"op,0\n", 1, Reason::Word),
+    (b"Splitter,op\n", 1, Reason::Word),
+    (b" splitter,op\n", 1, Reason::Word),
+    (b"000000000000000000000,op\n", 1, Reason::Word),
+    (b"x\n", 1, Reason::Word),
+    (b"0\n", 1, Reason::Fields),
+    (b"9\n", 1, Reason::Fields),
+    (b"splitter\n", 1, Reason::Fields),
+    (b"0,op,\n", 1, Reason::Fields),
+    (b"splitter,1,1\n", 1, Reason::Fields),
+    (b"3,op\n", 1, Reason::Range),
+    (b"-1,x\n", 1, Reason::Range),
+    (b"99999999999999999999,op\n", 1, Reason::Range),
+    (b"0,Op\n", 1, Reason::Number),
+    (b"0,\n", 1, Reason::Number),
+    (b"splitter,splitter\n", 1, Reason::Number),
+    (b"0,0\n", 1, Reason::Range),
+    (b"0,-1\n", 1, Reason::Range),
+    (b"splitter,1000001\n", 1, Reason::Range),
+    (b"0,op\n\n1,1\n3,1\n", 3, Reason::Range),
+];
+
+#[test]
+fn bad_schedules(rt: HostRuntime) {
+    for (text, number, why) in &BAD_SCHEDULES {
+        assert!(rt; is_at(read_schedule(rt.alloc(), text, 3), *number, *why));
+    }
+    assert!(rt; is_at(read_schedule(rt.alloc(), b"0,op\n", 0), 1, Reason::Range));
+    assert!(rt; read_schedule(rt.alloc(), b"splitter,op\n", 0).is_ok());
+}
+
+#[test]
+fn long_schedules(rt: HostRuntime) -> Result<(), Fail> {
+    let bytes = repeated(rt.alloc(), b"", 1_000_000, b"0,op\n", b"0\n")?;
     assert!(rt;
         is_at(
-            read_schedule(rt.alloc(), b"\n0,op\n", 1),
-            1,
-            Reason::Unbuilt
+            read_schedule(rt.alloc(), bytes.as_slice(), 1),
+            1_000_001,
+            Reason::Limit
         )
     );
+    Ok(())
+}
+
+static PAST_THE_TURNS: [(&[u8], Option<Reason>); 6] = [
+    (b"", None),
+    (b"0,op\n", None),
+    (b"0,1\n", Some(Reason::Limit)),
+    (b"splitter,1000000\n", Some(Reason::Limit)),
+    (b"0,1000001\n", Some(Reason::Range)),
+    (b"1,1\n", Some(Reason::Range)),
+];
+
+#[test]
+fn counts_are_bounded_together(rt: HostRuntime) -> Result<(), Fail> {
+    for (end, want) in &PAST_THE_TURNS {
+        let bytes = repeated(rt.alloc(), b"", 100, b"0,1000000\n", end)?;
+        let read = read_schedule(rt.alloc(), bytes.as_slice(), 1);
+        match want {
+            None => assert!(rt; read.is_ok()),
+            Some(why) => assert!(rt; is_at(read, 101, *why)),
+        }
+    }
     Ok(())
 }
 

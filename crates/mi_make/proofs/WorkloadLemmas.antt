@@ -1,5 +1,5 @@
 -- What comes with one object after another, and the settings.
-use Rattle.std.proofs.Common.{◌≡◌, ℕ, zero, suc, ℤ, ◌+◌, ◌-◌, ◌<◌, ◌≤◌, ◌++◌, List, [], ◌∷◌, length, Bool, true, IsTrue, refl, sym, ap, ◌∙◌, subst, arith}
+use Rattle.std.proofs.Common.{◌≡◌, ℕ, zero, suc, ℤ, ◌+◌, ◌-◌, ◌<◌, ◌≤◌, ◌++◌, List, [], length, IsTrue, sym, ap, ◌∙◌, subst, arith}
 use Rattle.std.specs.Prelude.{◌==◌}
 use Rattle.std.specs.List.{AllByRecursion}
 use Rattle.std.proofs.lemmas.Bool.{and_from}
@@ -9,7 +9,7 @@ use Rattle.mi_base.specs.Space.{has_dims}
 use Rattle.mi_base.specs.declared.records.Op.{Op}
 use Rattle.mi_base.specs.declared.settings.MetricKind.TheVariants.{L1}
 use Rattle.mi_make.specs.Draws.{after_vector, coordinate, drawn, next_state, vector}
-use Rattle.mi_make.specs.Workloads.{after_objects, after_operations, script, settings_with, share}
+use Rattle.mi_make.specs.Workloads.{after_objects, after_operations, script, share}
 use Rattle.mi_make.proofs.DrawLemmas.{drawn_fit, drawn_length}
 
 -- one more object was shared out
@@ -42,15 +42,14 @@ no_object n i x all more was =
     let none : n - i ≡ 0 = omega (arith, more) in
     sym (was ∙ ap (λ (k : ℕ). after_objects k i x) none)
 
--- the pivots fit
+-- vectors fit, pivots among them
+pub vector_fits : (x : ℕ) → IsTrue (has_dims 16 (vector x))
+vector_fits x = and_from _ _ (ap (λ (n : ℕ). n == 16) (drawn_length coordinate next_state 16 x)) (drawn_fit 16 x)
+
 pivots_fit : (n x : ℕ) → AllByRecursion (λ v. IsTrue (has_dims 16 v)) (drawn vector after_vector n x)
 unfolding drawn
 pivots_fit zero x = tt
-pivots_fit (suc n) x = (fits x, pivots_fit n (after_vector x)) where
-  fits : (y : ℕ) → IsTrue (has_dims 16 (vector y))
-  fits y = and_from _ _ (long y) (drawn_fit 16 y) where
-    long : (z : ℕ) → (length (vector z) == 16) ≡ true
-    long z = ap (λ (n : ℕ). n == 16) (drawn_length coordinate next_state 16 z)
+pivots_fit (suc n) x = (vector_fits x, pivots_fit n (after_vector x))
 
 pub within_limits : (seed : ℕ) (rows : List (List ℕ)) (pivots : List (List ℤ)) → rows ≡ [] → pivots ≡ drawn vector after_vector 12 seed
     → IsWithinLimits (record { metric = L1; dims = 16; rows = rows; pivots = pivots; levels = 3; cell = 100; updates = 8000; pages = 4100 })

@@ -1,12 +1,15 @@
 -- The workload of a number: what is drawn, in the order in which it is drawn.
-use Rattle.std.specs.Prelude.{◌≡◌, ℕ, zero, suc, ℤ, ◌+◌, ◌-◌, ◌*◌, ◌%◌, ◌==◌, List, [], ◌∷◌, ◌++◌, cond}
-use Rattle.mi_base.specs.Configuration.{Configuration}
+use Rattle.std.specs.Prelude.{◌≡◌, ℕ, zero, suc, ℤ, ◌+◌, ◌-◌, ◌%◌, ◌==◌, ◌<◌, ◌≤◌, List, [], ◌∷◌, ◌++◌, cond}
+use Rattle.std.specs.List.{AllByRecursion}
+use Rattle.mi_base.specs.Configuration.{Configuration, metric_space}
+use Rattle.mi_base.specs.Scripts.{IsScriptOver}
 use Rattle.mi_base.specs.declared.records.Actor.{Actor}
 use Rattle.mi_base.specs.declared.records.Actor.TheVariants.{Session, Splitter}
 use Rattle.mi_base.specs.declared.records.Op.{Op}
 use Rattle.mi_base.specs.declared.records.Op.TheVariants.{Insert, Delete, Range, Nearest}
 use Rattle.mi_base.specs.declared.records.ScheduleItem.{ScheduleItem}
-use Rattle.mi_base.specs.declared.records.Take.TheVariants.{Turns}
+use Rattle.mi_base.specs.declared.records.Take.{Take}
+use Rattle.mi_base.specs.declared.records.Take.TheVariants.{Turns, Operation}
 use Rattle.mi_base.specs.declared.settings.MetricKind.TheVariants.{L1}
 use Rattle.mi_make.specs.declared.workload.Workload.{Workload}
 use Rattle.mi_make.specs.Draws.{after_vector, drawn, left_by, next_state, number_below, vector}
@@ -74,3 +77,18 @@ pub record IsMade (seed : ℕ) (w : Workload) : Type 0 where
   pub settings : w.settings ≡ settings_with (drawn vector after_vector 12 seed)
   pub scripts : w.scripts ≡ script 0 5000 0 (after_pivots seed) ∷ script 1 5000 0 (after_pivots seed) ∷ []
   pub schedule : w.schedule ≡ drawn item after_item 4000 (after_objects 5000 0 (after_pivots seed))
+
+-- one of two sessions, or the splitter
+abbrev pub IsOneOfThree : Actor → Type 0
+IsOneOfThree (Session number) = number < 2
+IsOneOfThree Splitter = Unit {0}
+
+abbrev pub IsUpToTwenty : Take → Type 0
+IsUpToTwenty (Turns count) = (1 ≤ count) × (count ≤ 20)
+IsUpToTwenty Operation = ⊥
+
+-- A workload that may be run: the scripts are over the settings' metric, and each record of the schedule has up to twenty turns of one of their
+-- two sessions or of the splitter.
+pub record MayBeRun (w : Workload) : Type 0 where
+  pub scripts : AllByRecursion (IsScriptOver (metric_space w.settings)) w.scripts
+  pub schedule : AllByRecursion (λ i. IsOneOfThree i.actor × IsUpToTwenty i.take) w.schedule

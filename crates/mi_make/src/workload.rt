@@ -1,6 +1,6 @@
 //! The workload of a number.
 ghost use Rattle.std.specs.Prelude.{◌≡◌, ◌++◌, ◌≤◌, ◌<◌, IfOk, IfErr};
-ghost use Rattle.mi_make.specs.Workloads.{IsMade, after_item, after_objects, after_operations, item, operations, script, settings_with, share};
+ghost use Rattle.mi_make.specs.Workloads.{IsMade, MayBeRun, after_item, after_objects, after_operations, item, operations, script, settings_with, share};
 ghost use Rattle.mi_make.specs.Draws.{after_vector, drawn, left_by, vector};
 
 use crate::draws::Draws;
@@ -154,9 +154,10 @@ fn settings(alloc: Global, pivots: VectorList, seed: u64) -> Settings
 }
 
 /// The workload of a number: 5,000 vectors of 16 coordinates in two scripts, with 100 deletes and 300 queries, under 12
-/// pivots, and a schedule of 4,000 records.
+/// pivots, and a schedule of 4,000 records. It may be run.
 pub fn make(alloc: Global, seed: u64) -> Result<Workload, NoMemory>
-    ensures { IfOk result (IsMade seed) }
+    ensures made { IfOk result (IsMade seed) }
+    ensures runs { IfOk result MayBeRun }
 {
     let mut draws = Draws { state: seed };
     let list = pivots(alloc, &mut draws, PIVOTS)?;

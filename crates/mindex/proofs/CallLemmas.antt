@@ -1,19 +1,24 @@
 -- What a call says and sends.
-use Rattle.std.proofs.Common.{◌≡◌, ℕ, zero, suc, ◌<◌, ◌≤◌, List, [], ◌∷◌, length, map, get_or, Bool, true, false, cond, Option, None, Some, Result, Ok, Err, refl, sym, ap, ◌∙◌, subst, arith, inl, inr, ◌⊎◌}
+use Rattle.std.proofs.Common.{◌≡◌, ◌&&◌, ℕ, zero, suc, ◌<◌, ◌≤◌, List, [], ◌∷◌, length, map, drop, get_or, Bool, true, false, cond, Option, None, Some, Result, Ok, Err, refl, sym, ap, ◌∙◌, subst, arith, inl, inr, ◌⊎◌}
+use Rattle.std.specs.List.{AllByRecursion}
 use Rattle.std.specs.Prelude.{bytes_eq, codes, is_some, OnOk, OnErr, IsOk}
+use Rattle.mi_base.specs.declared.records.Actor.{Actor}
+use Rattle.mi_base.specs.declared.records.Actor.TheVariants.{Session, Splitter}
 use Rattle.mi_base.specs.declared.records.Op.{Op}
 use Rattle.mi_base.specs.declared.records.ScheduleItem.{ScheduleItem}
+use Rattle.mi_base.specs.declared.records.Take.{Take}
+use Rattle.mi_base.specs.declared.records.Take.TheVariants as take
 use Rattle.mi_base.specs.Configuration.{Configuration}
 use Rattle.mi_input.specs.Faults.{◌>>=◌}
 use Rattle.mi_input.specs.Settings.{settings_in}
-use Rattle.mi_input.specs.Schedules.{schedule_in}
-use Rattle.mi_input.specs.Scripts.{script_in}
+use Rattle.mi_input.specs.Schedules.{IsActorOf, IsItemOf, IsTake, schedule_in}
 use Rattle.mi_outside.specs.declared.writing.SinkFailed.{SinkFailed}
-use Rattle.mi_outside.specs.Outside.{Rose, Sends}
+use Rattle.mi_outside.specs.Outside.{KeepsContents, Rose, Sends}
 use Rattle.mi_outside.specs.States.{FilesState, SinkState}
 use Rattle.mi_tree.specs.declared.outcomes.Outcome.{Outcome}
 use Rattle.mi_tree.specs.Legal.{cells_of}
 use Rattle.mi_print.specs.Render.{transcript}
+use Rattle.mi_table.specs.declared.any.AnyMetric.{AnyMetric}
 use Rattle.mi_table.specs.declared.faults.TableFault.{TableFault}
 use Rattle.mi_table.specs.Faults.{first_fault}
 use Rattle.mindex.specs.declared.refusals.Refusal.{Refusal}
@@ -25,10 +30,13 @@ use Rattle.mindex.specs.Calls.{Answered, Answers, Completes, Ends, IsRunNumber, 
 use Rattle.mindex.specs.declared.statuses.Status.{Status}
 use Rattle.mindex.specs.declared.statuses.Status.TheVariants as status
 use Rattle.mindex.specs.Statuses.{status_number}
-use Rattle.mindex.specs.Inputs.{AreTextsOf, IsTextOf, GoodBefore, Inputs, Names, Texts, settings_or_fault, in_file, inputs_of, names_in, schedule_of, script_of, settings_from, settings_of}
-use Rattle.mindex.specs.Loading.{Finds, FindsAll, HasMetric, Loads, LoadsAll, MayRun, inputs_in, stop_line, stop_status}
-use Rattle.mi_plain.specs.Outcomes.{IsOutcomeOf}
+use Rattle.mindex.specs.Inputs.{AreScriptTexts, AreTextsOf, EachHas, IsTextOf, GoodBefore, Inputs, Names, ScriptsGoodBefore, Texts, are_sessions, settings_or_fault, in_file, inputs_of, names_in, schedule_of, scripts_of, settings_from, settings_of}
+use Rattle.mindex.specs.Loading.{Finds, FindsAll, FindsScripts, HasMetric, Loads, LoadsAll, LoadsScripts, MayRun, inputs_in, stop_line, stop_status}
+use Rattle.mi_replay.specs.Outcomes.{Played}
+use Rattle.mi_replay.specs.Tables.{ActorIsOver, IsItemOver, TakeIsOver}
 use Rattle.mindex.proofs.LoadingLemmas.{LoadsAt, some_text, some_text_is}
+use Rattle.mindex.proofs.ScriptsLemmas.{scripts_as_many, some_texts, some_texts_are, texts_as_many, texts_then}
+use Rattle.mi_tree.proofs.ListLemmas.{all_weaker}
 
 -- a text that was sent, and the status beside it
 pub ends_from : (said ended : Status) (text : List ℕ) (old new : SinkState) (sent : Result (Unit {0}) SinkFailed)
@@ -37,29 +45,33 @@ ends_from said ended text old new (Ok u) sends ok err = record { sent = inl (ok,
 ends_from said ended text old new (Err e) sends ok err = record { sent = inr (err, sends.err); grows = sends.grows }
 
 -- an outcome's text is the transcript
-pub runs_to : (l : Loaded) (o : Outcome) (said : Status) → IsOutcomeOf l.settings l.script o → said ≡ transcript_status o.short
+pub runs_to : (l : Loaded) (o : Outcome) (said : Status) → Played l.settings l.scripts l.schedule o → said ≡ transcript_status o.short
     → RunsTo (inputs_in l) said (transcript o.replies o.log o.cells o.entries o.allotted o.limit)
-runs_to l o said is said_is = record {
-  short = o.short;
-  ran = record {
-    replies = o.replies;
-    log = o.log;
-    entries = o.entries;
-    given_up = is.short.given_up;
-    allotted = o.allotted;
-    legal = is.legal;
-    one_page = is.one_page;
-    turns = is.turns;
-    ran = is.ran;
-    entries_are = is.entries_are;
-    settled = is.short.settled;
-    only_under_pivots = is.short.pivots;
-    short_is = is.short.short_is;
-    text_is = ap (λ cells. transcript o.replies o.log cells o.entries o.allotted o.limit) is.cells_are
-        ∙ ap (λ n. transcript o.replies o.log (cells_of l.settings o.log) o.entries o.allotted n) is.limit_is;
-  };
-  said_is = said_is;
-}
+runs_to l o said is said_is =
+    let end = is.order.outcome in
+    record {
+      short = o.short;
+      ran = record {
+        outcome = o;
+        played = is;
+        short_is = refl;
+        text_is = ap (λ cells. transcript o.replies o.log cells o.entries o.allotted o.limit) (end.cells_are ∙ ap (cells_of l.settings) (sym end.log_is))
+            ∙ ap (λ n. transcript o.replies o.log (cells_of l.settings o.log) o.entries o.allotted n) is.limit_is;
+      };
+      said_is = said_is;
+    }
+
+-- each item of a schedule that was read is one of its sessions or of the splitter
+pub items_over : (n : ℕ) (items : List ScheduleItem) → AllByRecursion (IsItemOf n) items → AllByRecursion (IsItemOver n) items
+items_over n items h = all_weaker (IsItemOf n) (IsItemOver n) (λ item is. (over item.actor is.actor, taken item.take is.take)) items h
+  where
+    over : (actor : Actor) → IsActorOf n actor → ActorIsOver n actor
+    over (Session k) h = h
+    over Splitter h = tt
+
+    taken : (take : Take) → IsTake take → TakeIsOver take
+    taken (take.Turns count) h = h
+    taken take.Operation h = tt
 
 -- settings without a fault, and with one
 pub good_settings : (text : List ℕ) (c : Configuration) → in_file 0 settings_in text ≡ Ok c → first_fault c.rows ≡ None → settings_from text ≡ Ok c
@@ -76,10 +88,13 @@ settings_good texts c found none = good_settings texts.settings c found none
 
 -- the files after the settings
 abbrev after_settings : Texts → Configuration → Result Inputs Refusal
-after_settings texts c = schedule_of texts >>= λ items. script_of c texts >>= λ ops. Ok (record { settings = c; schedule = items; script = ops })
+after_settings texts c = schedule_of texts >>= λ items. scripts_of c texts.scripts >>= λ scripts. Ok (record { settings = c; schedule = items; scripts = scripts })
 
 abbrev after_schedule : Texts → Configuration → List ScheduleItem → Result Inputs Refusal
-after_schedule texts c items = script_of c texts >>= λ ops. Ok (record { settings = c; schedule = items; script = ops })
+after_schedule texts c items = scripts_of c texts.scripts >>= λ scripts. Ok (record { settings = c; schedule = items; scripts = scripts })
+
+abbrev after_scripts : Configuration → List ScheduleItem → Result (List (List Op)) Refusal → Result Inputs Refusal
+after_scripts c items read = read >>= λ scripts. Ok (record { settings = c; schedule = items; scripts = scripts })
 
 refused_settings : (texts : Texts) (refusal : Refusal) → in_file 0 settings_in texts.settings ≡ Err refusal → inputs_of texts ≡ Err refusal
 refused_settings texts refusal found = ap (λ r. r >>= after_settings texts) (bad_settings texts.settings refusal found)
@@ -100,26 +115,24 @@ finds_schedule texts f0 f1 f2 c (Unread file) good stands found =
     (subst (λ n. GoodBefore n texts) (sym found.0) (is_ok_from (settings_of texts) c good), subst (λ n. Rose n f2.faults) stands found.1)
 finds_schedule texts f0 f1 f2 c Memory good stands found = found ∙ stands
 
-finds_script : (texts : Texts) (f0 f2 f3 : FilesState) (c : Configuration) (items : List ScheduleItem) (s : Stop) → settings_of texts ≡ Ok c → schedule_of texts ≡ Ok items → f2.faults ≡ f0.faults
-    → Finds {X = List Op} 2 f2 f3 (script_of c texts) (Err s) → FindsAll texts f0 f3 (Err s)
-finds_script texts f0 f2 f3 c items (Refused refusal) good scheduled stands found = (
-  good_inputs texts c good ∙ ap (λ r. r >>= after_schedule texts c) scheduled
-      ∙ ap (λ (r : Result (List Op) Refusal). r >>= λ ops. Ok (record { settings = c; schedule = items; script = ops })) found.0,
-  found.1 ∙ stands,
-)
-finds_script texts f0 f2 f3 c items (Unread file) good scheduled stands found =
-    (subst (λ n. GoodBefore n texts) (sym found.0) (is_ok_from (settings_of texts) c good, is_ok_from (schedule_of texts) items scheduled), subst (λ n. Rose n f3.faults) stands found.1)
-finds_script texts f0 f2 f3 c items Memory good scheduled stands found = found ∙ stands
+finds_scripts : (texts : Texts) (f0 f2 f3 : FilesState) (c : Configuration) (items : List ScheduleItem) (s : Stop) → settings_of texts ≡ Ok c → schedule_of texts ≡ Ok items → f2.faults ≡ f0.faults
+    → FindsScripts c texts.scripts f2 f3 (Err s) → FindsAll texts f0 f3 (Err s)
+finds_scripts texts f0 f2 f3 c items (Refused refusal) good scheduled stands found =
+    (good_inputs texts c good ∙ ap (λ r. r >>= after_schedule texts c) scheduled ∙ ap (after_scripts c items) found.0, found.1 ∙ stands)
+finds_scripts texts f0 f2 f3 c items (Unread file) good scheduled stands found =
+    let before : ScriptsGoodBefore found.0 texts = record { more = found.2; settings = c; settings_are = good; schedule = is_ok_from (schedule_of texts) items scheduled; scripts = found.3 } in
+    (subst (λ n. GoodBefore n texts) (sym found.1) before, subst (λ n. Rose n f3.faults) stands found.4)
+finds_scripts texts f0 f2 f3 c items Memory good scheduled stands found = found ∙ stands
 
 -- texts of which the first was read
 abbrev with_settings : FilesState → Names → List ℕ → Texts
-with_settings files names text = record { settings = text; schedule = some_text (files.content names.schedule); script = some_text (files.content names.script) }
+with_settings files names text = record { settings = text; schedule = some_text (files.content names.schedule); scripts = some_texts files names.scripts }
 
 told_settings : (files : FilesState) (names : Names) (text : List ℕ) → IsTextOf (files.content names.settings) text → AreTextsOf files names (with_settings files names text)
 told_settings files names text is = record {
   settings = is;
   schedule = some_text_is (files.content names.schedule);
-  script = some_text_is (files.content names.script);
+  scripts = some_texts_are files names.scripts;
 }
 
 module _ (names : Names) (f0 : FilesState) where
@@ -152,46 +165,58 @@ module _ (names : Names) (f0 : FilesState) where
     grows = l.grows;
   }
 
-  -- the schedule could not be read, or is refused
-  pub stopped_at_schedule : (f1 f2 : FilesState) (c : Configuration) (s : Stop) → Loads f0 f1 names.settings 0 (in_file 0 settings_in) (Ok c) → first_fault c.rows ≡ None
-      → LoadsAt {X = List ScheduleItem} f0 f1 f2 names.schedule 1 (in_file 1 (schedule_in 1)) (Err s) → LoadsAll names f0 f2 (Err s)
-  stopped_at_schedule f1 f2 c s l none k =
-      let texts : Texts = record { settings = l.text; schedule = k.text; script = some_text (f0.content names.script) } in
-      let told : AreTextsOf f0 names texts = record { settings = l.told_is; schedule = k.told_is; script = some_text_is (f0.content names.script) } in
-      let good = settings_good texts c l.finds.0 none in
-      record { texts = texts; told = told; finds = finds_schedule texts f0 f1 f2 c s good l.finds.1 k.finds; grows = omega (arith, l.grows, k.grows) }
+  module _ (sessions : ℕ) (as_many : sessions ≡ length names.scripts) where
+    -- the schedule is for as many sessions as there are scripts
+    scheduled : (f1 f2 : FilesState) (text : List ℕ) (texts : List (List ℕ)) (result : Result (List ScheduleItem) Stop) → AreScriptTexts f0 names.scripts texts
+        → Finds 1 f1 f2 (in_file 1 (schedule_in sessions) text) result → Finds 1 f1 f2 (in_file 1 (schedule_in (length texts)) text) result
+    scheduled f1 f2 text texts result told found =
+        subst (λ n. Finds 1 f1 f2 (in_file 1 (schedule_in n) text) result) (as_many ∙ sym (texts_as_many (λ name text. IsTextOf (f0.content name) text) names.scripts texts told)) found
 
-  -- the script could not be read, or is refused
-  pub stopped_at_script : (f1 f2 f3 : FilesState) (c : Configuration) (items : List ScheduleItem) (s : Stop) → Loads f0 f1 names.settings 0 (in_file 0 settings_in) (Ok c) → first_fault c.rows ≡ None
-      → LoadsAt f0 f1 f2 names.schedule 1 (in_file 1 (schedule_in 1)) (Ok items) → LoadsAt {X = List Op} f0 f2 f3 names.script 2 (in_file 2 (script_in c)) (Err s) → LoadsAll names f0 f3 (Err s)
-  stopped_at_script f1 f2 f3 c items s l none k m =
-      let texts : Texts = record { settings = l.text; schedule = k.text; script = m.text } in
-      let told : AreTextsOf f0 names texts = record { settings = l.told_is; schedule = k.told_is; script = m.told_is } in
-      record {
-        texts = texts;
-        told = told;
-        finds = finds_script texts f0 f2 f3 c items s (settings_good texts c l.finds.0 none) k.finds.0 (k.finds.1 ∙ l.finds.1) m.finds;
-        grows = omega (arith, l.grows, k.grows, m.grows);
-      }
+    -- the schedule could not be read, or is refused
+    pub stopped_at_schedule : (f1 f2 : FilesState) (c : Configuration) (s : Stop) → Loads f0 f1 names.settings 0 (in_file 0 settings_in) (Ok c) → first_fault c.rows ≡ None
+        → LoadsAt {X = List ScheduleItem} f0 f1 f2 names.schedule 1 (in_file 1 (schedule_in sessions)) (Err s) → LoadsAll names f0 f2 (Err s)
+    stopped_at_schedule f1 f2 c s l none k =
+        let texts : Texts = record { settings = l.text; schedule = k.text; scripts = some_texts f0 names.scripts } in
+        let told : AreTextsOf f0 names texts = record { settings = l.told_is; schedule = k.told_is; scripts = some_texts_are f0 names.scripts } in
+        let good = settings_good texts c l.finds.0 none in
+        let found = scheduled f1 f2 k.text texts.scripts (Err s) told.scripts k.finds in
+        record { texts = texts; told = told; finds = finds_schedule texts f0 f1 f2 c s good l.finds.1 found; grows = omega (arith, l.grows, k.grows) }
 
-  -- all were read
-  pub loaded_all : (f1 f2 f3 : FilesState) (l : Loaded) → MayRun l → Loads f0 f1 names.settings 0 (in_file 0 settings_in) (Ok l.settings) → first_fault l.settings.rows ≡ None
-      → LoadsAt f0 f1 f2 names.schedule 1 (in_file 1 (schedule_in 1)) (Ok l.schedule) → LoadsAt f0 f2 f3 names.script 2 (in_file 2 (script_in l.settings)) (Ok l.script) → LoadsAll names f0 f3 (Ok l)
-  loaded_all f1 f2 f3 loaded may l none k m =
-      let texts : Texts = record { settings = l.text; schedule = k.text; script = m.text } in
-      let told : AreTextsOf f0 names texts = record { settings = l.told_is; schedule = k.told_is; script = m.told_is } in
-      let c = loaded.settings in
-      record {
-        texts = texts;
-        told = told;
-        finds = (
-          good_inputs texts c (settings_good texts c l.finds.0 none) ∙ ap (λ r. r >>= after_schedule texts c) k.finds.0
-              ∙ ap (λ (r : Result (List Op) Refusal). r >>= λ ops. Ok (record { settings = c; schedule = loaded.schedule; script = ops })) m.finds.0,
-          may,
-          m.finds.1 ∙ k.finds.1 ∙ l.finds.1,
-        );
-        grows = omega (arith, l.grows, k.grows, m.grows);
-      }
+    module _ (f1 f2 f3 : FilesState) (c : Configuration) (items : List ScheduleItem) (l : Loads f0 f1 names.settings 0 (in_file 0 settings_in) (Ok c)) (none : first_fault c.rows ≡ None)
+        (k : LoadsAt f0 f1 f2 names.schedule 1 (in_file 1 (schedule_in sessions)) (Ok items)) (same : KeepsContents f0 f2) where
+      -- a script could not be read, or is refused
+      pub stopped_at_scripts : (s : Stop) → LoadsScripts c names.scripts f2 f3 (Err s) → LoadsAll names f0 f3 (Err s)
+      stopped_at_scripts s m =
+          let texts : Texts = record { settings = l.text; schedule = k.text; scripts = m.texts } in
+          let told : AreTextsOf f0 names texts = record { settings = l.told_is; schedule = k.told_is; scripts = texts_then f0 f2 names.scripts m.texts same m.told } in
+          let found = scheduled f1 f2 k.text m.texts (Ok items) told.scripts k.finds in
+          record {
+            texts = texts;
+            told = told;
+            finds = finds_scripts texts f0 f2 f3 c items s (settings_good texts c l.finds.0 none) found.0 (found.1 ∙ l.finds.1) m.finds;
+            grows = omega (arith, l.grows, k.grows, m.grows);
+          }
+
+      -- all were read
+      pub loaded_all : (metric : AnyMetric) (scripts : List (List Op)) → LoadsScripts c names.scripts f2 f3 (Ok scripts)
+          → (length scripts ≡ sessions → MayRun (record { settings = c; metric = metric; schedule = items; scripts = scripts }))
+          → LoadsAll names f0 f3 (Ok (record { settings = c; metric = metric; schedule = items; scripts = scripts }))
+      loaded_all metric scripts m may =
+          let texts : Texts = record { settings = l.text; schedule = k.text; scripts = m.texts } in
+          let told : AreTextsOf f0 names texts = record { settings = l.told_is; schedule = k.told_is; scripts = texts_then f0 f2 names.scripts m.texts same m.told } in
+          let found = scheduled f1 f2 k.text m.texts (Ok items) told.scripts k.finds in
+          let count : length scripts ≡ sessions =
+          omega (arith, as_many, scripts_as_many c 2 m.texts scripts m.finds.0, texts_as_many (λ name text. IsTextOf (f0.content name) text) names.scripts m.texts told.scripts) in
+          record {
+            texts = texts;
+            told = told;
+            finds = (
+              good_inputs texts c (settings_good texts c l.finds.0 none) ∙ ap (λ r. r >>= after_schedule texts c) found.0 ∙ ap (after_scripts c items) m.finds.0,
+              may count,
+              m.finds.2 ∙ found.1 ∙ l.finds.1,
+            );
+            grows = omega (arith, l.grows, k.grows, m.grows);
+          }
 
 -- the words aren't served
 pub says_usage : (names : Option Names) (files : FilesState) (old new : SinkState) (ended : Status) → is_some names ≡ false
@@ -226,17 +251,17 @@ says_run words names f0 f1 old new ended l is all ran =
     subst (λ w. Answers (Says w) f0 f1 old new ended) (sym is)
     (record { said = ran.said; text = ran.text; says = serves_run names f0 f1 l ran.said ran.text all ran.says; ends = ran.ends; grows = all.grows })
 
+-- the words are served where they are a command and enough names
+served_as : (test : Bool) (names : Names) → is_some {T = Names} (cond test (Some names) None) ≡ true → cond {A = Option Names} test (Some names) None ≡ Some names
+served_as true names h = refl
+served_as false names h = cc
+
 -- the names among the words that are served
-pub served_names : (words : List (List ℕ)) → is_some (names_in words) ≡ true → names_in words ≡ Some (record { settings = get_or words 1 []; schedule = get_or words 2 []; script = get_or words 3 [] })
+pub served_names : (words : List (List ℕ)) → is_some (names_in words) ≡ true → names_in words ≡ Some (record { settings = get_or words 1 []; schedule = get_or words 2 []; scripts = drop 3 words })
 served_names [] h = cc
 served_names (a ∷ []) h = cc
 served_names (a ∷ b ∷ []) h = cc
-served_names (a ∷ b ∷ d ∷ []) h = cc
-served_names (a ∷ b ∷ d ∷ e ∷ []) h =
-    let names : Names = record { settings = b; schedule = d; script = e } in
-    let P : Bool → Type 0 = λ t. is_some {T = Names} (cond t (Some names) None) ≡ true → cond {A = Option Names} t (Some names) None ≡ Some names in
-    (elim (bytes_eq a (codes "replay")) as P [ true ↦ λ _. refl | false ↦ λ k. cc ]) h
-served_names (a ∷ b ∷ d ∷ e ∷ f ∷ words) h = cc
+served_names (a ∷ b ∷ d ∷ scripts) h = served_as (bytes_eq a (codes "replay") && are_sessions scripts) (record { settings = b; schedule = d; scripts = scripts }) h
 
 -- the word at a place
 pub word_at : {W : Type 0} (f : W → List ℕ) (words : List W) (i : ℕ) (w : W) → i < length words → w ≡ get_or words i w → get_or (map f words) i [] ≡ f w
@@ -244,23 +269,38 @@ word_at f [] i w lt is = absurd (omega arith)
 word_at f (x ∷ words) zero w lt is = ap f (sym is)
 word_at f (x ∷ words) (suc i) w lt is = word_at f words i w (omega arith) is
 
+-- the words from a place on
+words_from : {W : Type 0} (f : W → List ℕ) (n : ℕ) (words : List W) → drop n (map f words) ≡ map f (drop n words)
+words_from f zero words = refl
+words_from f (suc n) [] = refl
+words_from f (suc n) (w ∷ words) = words_from f n words
+
 -- the words that are served have these names
-pub named_words : {W : Type 0} (f : W → List ℕ) (words : List W) (a b d : W) (names : Names) → is_some (names_in (map f words)) ≡ true → length words ≡ 4
-    → a ≡ get_or words 1 a → b ≡ get_or words 2 b → d ≡ get_or words 3 d → names.settings ≡ f a → names.schedule ≡ f b → names.script ≡ f d → names_in (map f words) ≡ Some names
-named_words f words a b d names served four first second third settings schedule script =
+pub named_words : {W : Type 0} (f : W → List ℕ) (words : List W) (a b : W) (names : Names) → is_some (names_in (map f words)) ≡ true → 4 ≤ length words
+    → a ≡ get_or words 1 a → b ≡ get_or words 2 b → names.settings ≡ f a → names.schedule ≡ f b → names.scripts ≡ map f (drop 3 words) → names_in (map f words) ≡ Some names
+named_words f words a b names served some first second settings schedule scripts =
     served_names (map f words) served
-    ∙ ap (λ w. Some (record { settings = w; schedule = get_or (map f words) 2 []; script = get_or (map f words) 3 [] })) (word_at f words 1 a (omega arith) first ∙ sym settings)
-    ∙ ap (λ w. Some (record { settings = names.settings; schedule = w; script = get_or (map f words) 3 [] })) (word_at f words 2 b (omega arith) second ∙ sym schedule)
-    ∙ ap (λ w. Some (record { settings = names.settings; schedule = names.schedule; script = w })) (word_at f words 3 d (omega arith) third ∙ sym script)
+    ∙ ap (λ w. Some (record { settings = w; schedule = get_or (map f words) 2 []; scripts = drop 3 (map f words) })) (word_at f words 1 a (omega arith) first ∙ sym settings)
+    ∙ ap (λ w. Some (record { settings = names.settings; schedule = w; scripts = drop 3 (map f words) })) (word_at f words 2 b (omega arith) second ∙ sym schedule)
+    ∙ ap (λ ws. Some (record { settings = names.settings; schedule = names.schedule; scripts = ws })) (words_from f 3 words ∙ sym scripts)
 
 pub told_text : (told : Option (List ℕ)) (text other : List ℕ) → told ≡ Some text → IsTextOf told other → other ≡ text
 told_text told text other is h = subst (λ o. IsTextOf o other) is h
 
+told_texts : (files : FilesState) (names texts others : List (List ℕ)) → EachHas (λ name text. files.content name ≡ Some text) names texts → AreScriptTexts files names others → others ≡ texts
+told_texts files [] [] [] t h = refl
+told_texts files (name ∷ names) (text ∷ texts) (other ∷ others) t h =
+    ap (λ w. w ∷ others) (told_text (files.content name) text other t.0 h.0) ∙ ap (λ ws. text ∷ ws) (told_texts files names texts others t.1 h.1)
+told_texts files [] (text ∷ texts) others t h = absurd t
+told_texts files (name ∷ names) [] others t h = absurd t
+told_texts files [] texts (other ∷ others) t h = absurd h
+told_texts files (name ∷ names) texts [] t h = absurd h
+
 told_inputs : (files : FilesState) (names : Names) (texts others : Texts) → Tells files names texts → AreTextsOf files names others → inputs_of others ≡ inputs_of texts
 told_inputs files names texts others t h =
-    ap (λ w. inputs_of (record { settings = w; schedule = others.schedule; script = others.script })) (told_text (files.content names.settings) texts.settings others.settings t.settings h.settings)
-    ∙ ap (λ w. inputs_of (record { settings = texts.settings; schedule = w; script = others.script })) (told_text (files.content names.schedule) texts.schedule others.schedule t.schedule h.schedule)
-    ∙ ap (λ w. inputs_of (record { settings = texts.settings; schedule = texts.schedule; script = w })) (told_text (files.content names.script) texts.script others.script t.script h.script)
+    ap (λ w. inputs_of (record { settings = w; schedule = others.schedule; scripts = others.scripts })) (told_text (files.content names.settings) texts.settings others.settings t.settings h.settings)
+    ∙ ap (λ w. inputs_of (record { settings = texts.settings; schedule = w; scripts = others.scripts })) (told_text (files.content names.schedule) texts.schedule others.schedule t.schedule h.schedule)
+    ∙ ap (λ ws. inputs_of (record { settings = texts.settings; schedule = texts.schedule; scripts = ws })) (told_texts files names.scripts texts.scripts others.scripts t.scripts h.scripts)
 
 -- the status of a call that ran its inputs, or that wanted memory
 abbrev RanOrWanted : Status → Type 0

@@ -1,7 +1,7 @@
 -- What a call that chooses pivots reads, says and sends.
-use Rattle.std.proofs.Common.{◌≡◌, ℕ, zero, suc, ◌+◌, ◌<◌, ◌≤◌, ℤ, List, [], ◌∷◌, ◌++◌, length, map, get_or, Bool, true, false, cond, Option, None, Some, Result, Ok, Err, IsTrue, refl, sym, ap, ◌∙◌, subst, arith, inl, inr, ◌⊎◌}
-use Rattle.std.specs.Prelude.{bytes_eq, codes, option_map, IsOk}
-use Rattle.std.specs.List.{AllByRecursion, filter_map, flat_map}
+use Rattle.std.proofs.Common.{◌≡◌, ℕ, ◌≤◌, ℤ, List, [], ◌∷◌, ◌++◌, length, map, get_or, Bool, true, false, cond, Option, None, Some, Result, Ok, Err, IsTrue, refl, sym, ap, ◌∙◌, subst, arith, inl, inr, ◌⊎◌}
+use Rattle.std.specs.Prelude.{bytes_eq, codes, option_map}
+use Rattle.std.specs.List.{AllByRecursion, flat_map}
 use Rattle.mi_base.specs.declared.limits.TheConstants.{MAX_PIVOTS}
 use Rattle.mi_base.specs.declared.records.Op.{Op}
 use Rattle.mi_base.specs.declared.records.Op.TheVariants.{Insert, Delete, Range, Nearest}
@@ -16,7 +16,6 @@ use Rattle.mi_input.specs.Settings.{settings_in}
 use Rattle.mi_input.specs.Scripts.{script_in}
 use Rattle.mi_outside.specs.Outside.{Rose}
 use Rattle.mi_outside.specs.States.{FilesState, SinkState}
-use Rattle.mi_table.specs.declared.faults.TableFault.{TableFault}
 use Rattle.mi_table.specs.Faults.{first_fault}
 use Rattle.mindex.specs.declared.choosing.Candidates.{Candidates}
 use Rattle.mindex.specs.declared.refusals.Refusal.{Refusal}
@@ -29,7 +28,7 @@ use Rattle.mindex.specs.Statuses.{status_number}
 use Rattle.mindex.specs.Inputs.{in_file, settings_from}
 use Rattle.mindex.specs.Loading.{Finds, HasMetric, Loads, stop_line, stop_status}
 use Rattle.mindex.specs.Calls.{Answered, Answers, Ends, IsWant, usage_line}
-use Rattle.mindex.specs.Choosing.{AreChooseTexts, ChooseCompletes, ChooseGoodBefore, ChooseInputs, ChooseNames, ChooseSays, ChooseSaysOf, ChooseTexts, ChooseWords, IsChoiceText, Proposed, ServesChoose, TellsChoose, choose_inputs_of, choose_words_in, inserted_vector, objects_of, pivot_line, words_with_count}
+use Rattle.mindex.specs.Choosing.{AreChooseTexts, ChooseCompletes, ChooseGoodBefore, ChooseInputs, ChooseNames, ChooseSays, ChooseSaysOf, ChooseTexts, ChooseWords, IsChoiceText, Proposed, ServesChoose, TellsChoose, choose_inputs_of, choose_words_in, objects_of, pivot_line, words_with_count}
 use Rattle.mindex.specs.ChooseLoading.{FindsCandidates, LoadsCandidates, MayChoose, inputs_in}
 use Rattle.mindex.proofs.LoadingLemmas.{LoadsAt, some_text, some_text_is}
 use Rattle.mindex.proofs.CallLemmas.{bad_settings, bad_table, good_settings, is_ok_from, told_text, word_at}

@@ -1,4 +1,7 @@
 pub mod CallLemmas
-pub mod LoadingLemmas
-pub mod MeaningLemmas
 pub mod ChooseLemmas
+pub mod LoadingLemmas
+pub mod MakeLemmas
+pub mod MeaningLemmas
+pub mod RunLemmas
+pub mod ScriptsLemmas

@@ -1,5 +1,5 @@
 -- What reading one file says.
-use Rattle.std.proofs.Common.{◌≡◌, ℕ, zero, suc, ◌+◌, ◌<◌, ◌≤◌, List, [], ◌∷◌, length, true, false, cond, Option, None, Some, Result, Ok, Err, nat_le, refl, ap, subst, ◌∙◌, arith}
+use Rattle.std.proofs.Common.{◌≡◌, ℕ, zero, suc, ◌+◌, ◌<◌, ◌≤◌, List, [], ◌∷◌, length, true, false, cond, Option, None, Some, Result, Err, nat_le, refl, ap, subst, ◌∙◌, arith}
 use Rattle.std.specs.Prelude.{IfSome, unwrap_or}
 use Rattle.mi_base.specs.declared.limits.TheConstants.{MAX_FILE_SIZE}
 use Rattle.std.proofs.lemmas.Bool.Decides.{nat_tests}

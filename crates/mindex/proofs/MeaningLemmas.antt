@@ -1,9 +1,8 @@
 -- A legal outcome of inputs within their limits has numbers that can be read back from its text.
 use Rattle.std.proofs.Common.{◌≡◌, ℕ, zero, suc, ◌+◌, ◌<◌, ◌≤◌, ◌^◌, ◌==◌, ◌&&◌, ◌||◌, ℤ, pos, negsuc, List, [], ◌∷◌, ◌++◌, length, map, take, drop, Option, Bool, true, false, cond, not, IsTrue, nat_lt, nat_le, refl, sym, ap, ◌∙◌, subst, arith, length-append}
-use Rattle.std.specs.List.{AllByRecursion, filter, fold, list_any, list_all}
+use Rattle.std.specs.List.{AllByRecursion, filter, fold, list_any}
 use Rattle.std.specs.Int.Signed.{mag}
-use Rattle.std.proofs.lemmas.Bool.{and_parts, eqb-true, leb-true, ltb-true, false≢true}
-use Rattle.std.proofs.lemmas.Bool.Decides.{nat_tests}
+use Rattle.std.proofs.lemmas.Bool.{and_parts, eq-eqb, eqb-true, leb-true, ltb-true, false≢true}
 use Rattle.std.proofs.lemmas.List.{length-map, take-append-drop}
 use Rattle.std.proofs.lemmas.List.Sums.{count_by-le-length}
 use Rattle.std.proofs.lemmas.List.Elements.{recursion_from_All}
@@ -23,14 +22,13 @@ use Rattle.mi_base.specs.Configuration.{Configuration, HasItsRows, IsWithinLimit
 use Rattle.mi_base.specs.History.{Entered, IsPosition, Object, at_position, entered, hits, is_among, live, live_after, row_cmp, row_of, updates_of}
 use Rattle.mi_base.specs.Permutations.{distances}
 use Rattle.mi_base.specs.Prefixes.{all_below}
-use Rattle.mi_base.specs.Scripts.{IsOpOver}
-use Rattle.mi_base.specs.Sorting.{put, sorted}
+use Rattle.mi_base.specs.Scripts.{IsOpOver, IsScriptOver}
+use Rattle.mi_base.specs.Sorting.{sorted}
 use Rattle.mi_base.specs.Space.{IsMetric, MetricSpace, Space, is_row, metric_of}
 use Rattle.mi_base.specs.Vectors.{all_coordinates, is_coordinate}
 use Rattle.mi_base.proofs.HistoryLemmas.{few_updates, updates_of-append}
 use Rattle.mi_base.proofs.LiveLemmas.{few_live, length_filter}
 use Rattle.mi_base.proofs.SortingLemmas.{filter_keeps, same_length, same_sorted}
-use Rattle.mi_tree.specs.declared.outcomes.Leaf.{Leaf}
 use Rattle.mi_tree.specs.declared.outcomes.Outcome.{Outcome}
 use Rattle.mi_tree.specs.Cells.{AllMaySplit, MaySplit, grid_of, leaves, same_cell}
 use Rattle.mi_tree.specs.Counting.{belongs, catalog_after, leaf_with, population}
@@ -46,11 +44,12 @@ use Rattle.mi_legal.specs.Legal.{AllEntered, AllRight, EachRight, accepted_in, a
 use Rattle.mi_legal.specs.Right.{IsNearest, IsRange, IsUpdateNumber, Right}
 use Rattle.mi_legal.proofs.ReplyLemmas.{number_within}
 use Rattle.mi_rules.specs.Passing.{candidates, is_opened, is_reached, kth_distance, lets_through, opened_count, passes, reached_count}
+use Rattle.mi_replay.specs.Outcomes.{Played}
 use Rattle.mi_print.specs.Meaning.{AreCoordinates, AreNumbers, IsPrintable, IsPrintableEvent, IsPrintableLeaf, IsPrintableReply, IsPrintableRow}
 use Rattle.mi_print.proofs.MeaningLemmas.{one_meaning}
-use Rattle.mindex.specs.Calls.{IsTranscript}
 use Rattle.mindex.specs.Inputs.{Inputs}
 use Rattle.mindex.specs.Meaning.{AreLimited, OneHistory}
+use Rattle.mindex.proofs.RunLemmas.{few_in_order}
 
 -- coordinates, and those of vectors that fit
 
@@ -250,41 +249,61 @@ module _ (c : Configuration) (limits : IsWithinLimits c) (metric : IsMetric (met
 
 -- the log
 
-abbrev SmallEntry : ℕ → Entered → Type 0
-SmallEntry most e = (e.session < 1) × (e.op ≤ most)
+abbrev SmallEntry : ℕ → ℕ → Entered → Type 0
+SmallEntry sessions most e = (e.session < sessions) × (e.op ≤ most)
 
-update_small : (op most : ℕ) (o : Op) (y : Reply) → op ≤ most → AllByRecursion (λ e. e.op ≤ most) (accepted_update 0 op o y)
-update_small op most (Insert id v) (reply.Stored n) few = (few, tt)
-update_small op most (Delete id) (reply.Removed n) few = (few, tt)
-update_small op most o y few = tt
+update_small : (session op most : ℕ) (o : Op) (y : Reply) → op ≤ most → AllByRecursion (λ e. e.op ≤ most) (accepted_update session op o y)
+update_small session op most (Insert id v) (reply.Stored n) few = (few, tt)
+update_small session op most (Delete id) (reply.Removed n) few = (few, tt)
+update_small session op most o y few = tt
 
-accepted_small : (op most : ℕ) (os : List Op) (ys : List Reply) → length os + op ≤ most + 1 → AllByRecursion (λ e. e.op ≤ most) (accepted_in 0 op os ys)
-accepted_small op most [] [] few = tt
-accepted_small op most [] (y ∷ ys) few = tt
-accepted_small op most (o ∷ os) [] few = tt
-accepted_small op most (o ∷ os) (y ∷ ys) few =
-    all_joined (λ (e : Entered). e.op ≤ most) (accepted_update 0 op o y) (accepted_in 0 (op + 1) os ys) (update_small op most o y (omega (arith, few))) (accepted_small (op + 1) most os ys (omega (arith, few)))
+accepted_small : (session op most : ℕ) (os : List Op) (ys : List Reply) → length os + op ≤ most + 1 → AllByRecursion (λ e. e.op ≤ most) (accepted_in session op os ys)
+accepted_small session op most [] [] few = tt
+accepted_small session op most [] (y ∷ ys) few = tt
+accepted_small session op most (o ∷ os) [] few = tt
+accepted_small session op most (o ∷ os) (y ∷ ys) few =
+    all_joined (λ (e : Entered). e.op ≤ most) (accepted_update session op o y) (accepted_in session (op + 1) os ys)
+    (update_small session op most o y (omega (arith, few))) (accepted_small session (op + 1) most os ys (omega (arith, few)))
 
--- all entries are of session 0
-entries_small : (most : ℕ) (es : List Entered) → AllByRecursion (λ e. e.session < 1) es → AllByRecursion (λ e. e.op ≤ most) (filter (λ e. e.session == 0) es) → AllByRecursion (SmallEntry most) es
-entries_small most [] h k = tt
-entries_small most (e ∷ es) h k =
-    let own : (e.session == 0) ≡ true = let low = h.0 in grind (arith, nat_tests) in
-    let Q : Bool → Type 0 = λ b. AllByRecursion (λ (x : Entered). x.op ≤ most) (cond b (e ∷ filter (λ x. x.session == 0) es) (filter (λ x. x.session == 0) es)) in
-    let both = subst Q own k in
-    ((h.0, both.0), entries_small most es h.1 both.1)
+-- those of one session
+abbrev of_session : ℕ → List Entered → List Entered
+of_session session es = filter (λ e. e.session == session) es
 
-events_printable : (c : Configuration) → IsWithinLimits c → (most : ℕ) → most ≤ 200000 → (log : List LogEvent) → AllByRecursion (SmallEvent c) log → AllByRecursion (SmallEntry most) (entered log) → AllByRecursion IsPrintableEvent log
-events_printable c limits most few [] h k = tt
-events_printable c limits most few (event.Update session op (update.Insert id v) ∷ log) h k =
+own_small : (most : ℕ) (log : List LogEvent) (session : ℕ) (scripts : List (List Op)) (replies : List (List Reply)) → AllByRecursion (λ os. length os ≤ most) scripts → AllEntered log session scripts replies
+    → (k n : ℕ) → n ≡ session + k → k < length scripts → AllByRecursion (λ e. e.op ≤ most) (of_session n (entered log))
+own_small most log session [] replies few own k n is low = absurd (omega (arith, low))
+own_small most log session (os ∷ scripts) [] few own k n is low = absurd own
+own_small most log session (os ∷ scripts) (ys ∷ replies) few own zero n is low =
+    let first : session ≡ n = omega (arith, is) in
+    subst (λ m. AllByRecursion (λ e. e.op ≤ most) (of_session m (entered log))) first
+    (subst (AllByRecursion (λ (e : Entered). e.op ≤ most)) (sym own.0) (accepted_small session 1 most os ys (omega (arith, few.0))))
+own_small most log session (os ∷ scripts) (ys ∷ replies) few own (suc k) n is low =
+    own_small most log (session + 1) scripts replies few.1 own.1 k n (omega (arith, is)) (omega (arith, low))
+
+rest_small : (P : Entered → Type 0) (test : Bool) (e : Entered) (es : List Entered) → AllByRecursion P (cond test (e ∷ es) es) → AllByRecursion P es
+rest_small P true e es h = h.1
+rest_small P false e es h = h
+
+-- what each session's entries are all are
+entries_small : (sessions most : ℕ) (es : List Entered) → AllByRecursion (λ e. e.session < sessions) es → ((k : ℕ) → k < sessions → AllByRecursion (λ e. e.op ≤ most) (of_session k es))
+    → AllByRecursion (SmallEntry sessions most) es
+entries_small sessions most [] h k = tt
+entries_small sessions most (e ∷ es) h k =
+    let Q : Bool → Type 0 = λ b. AllByRecursion (λ (x : Entered). x.op ≤ most) (cond b (e ∷ of_session e.session es) (of_session e.session es)) in
+    let own = subst Q (eq-eqb e.session e.session refl) (k e.session h.0) in
+    ((h.0, own.0), entries_small sessions most es h.1 (λ n low. rest_small (λ (x : Entered). x.op ≤ most) (e.session == n) e (of_session n es) (k n low)))
+
+events_printable : (c : Configuration) → IsWithinLimits c → (sessions most : ℕ) → sessions ≤ 16 → most ≤ 200000 → (log : List LogEvent) → AllByRecursion (SmallEvent c) log → AllByRecursion (SmallEntry sessions most) (entered log) → AllByRecursion IsPrintableEvent log
+events_printable c limits sessions most low few [] h k = tt
+events_printable c limits sessions most low few (event.Update session op (update.Insert id v) ∷ log) h k =
     let first = h.0.0 in
     let own = k.0 in
-    (((omega (arith, own.0), (omega (arith, own.1, few), (omega (arith, first), tt))), fits_small c.metric c.dims c.rows v limits.rows h.0.1), events_printable c limits most few log h.1 k.1)
-events_printable c limits most few (event.Update session op (update.Delete id) ∷ log) h k =
+    (((omega (arith, own.0, low), (omega (arith, own.1, few), (omega (arith, first), tt))), fits_small c.metric c.dims c.rows v limits.rows h.0.1), events_printable c limits sessions most low few log h.1 k.1)
+events_printable c limits sessions most low few (event.Update session op (update.Delete id) ∷ log) h k =
     let first = h.0 in
     let own = k.0 in
-    ((omega (arith, own.0), (omega (arith, own.1, few), (omega (arith, first), tt))), events_printable c limits most few log h.1 k.1)
-events_printable c limits most few (event.Split p ∷ log) h k = (prefix_small (length c.pivots) p limits.few_pivots h.0, events_printable c limits most few log h.1 k)
+    ((omega (arith, own.0, low), (omega (arith, own.1, few), (omega (arith, first), tt))), events_printable c limits sessions most low few log h.1 k.1)
+events_printable c limits sessions most low few (event.Split p ∷ log) h k = (prefix_small (length c.pivots) p limits.few_pivots h.0, events_printable c limits sessions most low few log h.1 k)
 
 -- the cells
 leaf_printable : (c : Configuration) → IsWithinLimits c → (log : List LogEvent) → LegalLog c log → AllByRecursion IsPrintableLeaf (cells_of c log)
@@ -297,44 +316,37 @@ leaf_printable c limits log legal =
     all_map (leaf_with g h) IsPrintableLeaf (leaves g log)
     (all_weaker (Fits n c.levels) _ (λ p f. (omega (arith, length_filter (belongs g p) h.live, most), prefix_small n p limits.few_pivots f.1)) (leaves g log) fit)
 
+-- the replies of all sessions
+all_printable : (c : Configuration) → IsWithinLimits c → IsMetric (metric_space c) → (log : List LogEvent) → LegalLog c log → (allotted session : ℕ) (scripts : List (List Op)) (replies : List (List Reply))
+    → AllByRecursion (IsScriptOver (metric_space c)) scripts → AllRight c log allotted session scripts replies → AllByRecursion (λ ys. AllByRecursion IsPrintableReply ys) replies
+all_printable c limits metric log legal allotted session [] [] over right = tt
+all_printable c limits metric log legal allotted session [] (ys ∷ replies) over right = absurd right
+all_printable c limits metric log legal allotted session (os ∷ scripts) [] over right = absurd right
+all_printable c limits metric log legal allotted session (os ∷ scripts) (ys ∷ replies) over right = (
+  replies_printable c limits metric log legal allotted session 1 os ys over.0.each right.0,
+  all_printable c limits metric log legal allotted (session + 1) scripts replies over.1 right.1,
+)
+
+-- the same outcome with the cells of its log
+abbrev outcome_of : (inputs : Inputs) → Outcome → Outcome
+outcome_of inputs o = record o { cells = cells_of inputs.settings o.log; limit = inputs.settings.pages }
+
 -- an outcome that the headline allows can be read back
-abbrev outcome_of : (inputs : Inputs) (s : Bool) (text : List ℕ) → IsTranscript inputs s text → Outcome
-outcome_of inputs s text x = record {
-  replies = x.replies;
-  log = x.log;
-  cells = cells_of inputs.settings x.log;
-  entries = x.entries;
-  allotted = x.allotted;
-  limit = inputs.settings.pages;
-  short = s;
-}
-
-all_printable : (inputs : Inputs) (log : List LogEvent) (allotted : ℕ) (replies : List (List Reply)) → AreLimited inputs → LegalLog inputs.settings log → AllRight inputs.settings log allotted 0 (inputs.script ∷ []) replies
-    → AllByRecursion (λ session. AllByRecursion IsPrintableReply session) replies
-all_printable inputs log allotted [] limited legal right = absurd right
-all_printable inputs log allotted (ys ∷ []) limited legal right =
-    (replies_printable inputs.settings limited.limits limited.metric log legal allotted 0 1 inputs.script ys limited.script.each right.0, tt)
-all_printable inputs log allotted (ys ∷ zs ∷ more) limited legal right = absurd right.1
-
-entered_small : (inputs : Inputs) (log : List LogEvent) (replies : List (List Reply)) → AreLimited inputs → AllEntered log 0 (inputs.script ∷ []) replies → AllByRecursion (λ e. e.session < 1) (entered log) → AllByRecursion (SmallEntry 200000) (entered log)
-entered_small inputs log [] limited own named = absurd own
-entered_small inputs log (ys ∷ more) limited own named =
-    entries_small 200000 (entered log) named
-    (subst (AllByRecursion (λ (e : Entered). e.op ≤ 200000)) (sym own.0) (accepted_small 1 200000 inputs.script ys (omega (arith, limited.script.few))))
-
-printable : (inputs : Inputs) (s : Bool) (text : List ℕ) (x : IsTranscript inputs s text) → AreLimited inputs → IsPrintable (outcome_of inputs s text x)
-printable inputs s text x limited =
-    let legal = x.legal.log_is in
-    let most : x.entries ≤ 1400000 = omega (arith, x.entries_are, few_live (updates_of x.log), few_updates x.log, log_short inputs.settings limited.limits x.log legal) in
+printable : (inputs : Inputs) (o : Outcome) → Played inputs.settings inputs.scripts inputs.schedule o → AreLimited inputs → IsPrintable (outcome_of inputs o)
+printable inputs o played limited =
+    let c = inputs.settings in
+    let legal = played.legal.log_is in
+    let few = few_in_order c inputs.scripts inputs.schedule o limited.limits limited.metric played.order in
+    let short = all_weaker (IsScriptOver (metric_space c)) (λ os. length os ≤ 200000) (λ os over. over.few) inputs.scripts limited.scripts in
     record {
-      replies = all_printable inputs x.log x.allotted x.replies limited legal x.legal.right;
-      log = events_printable inputs.settings limited.limits 200000 (omega arith) x.log (log_small inputs.settings limited.limits x.log legal)
-          (entered_small inputs x.log x.replies limited x.legal.entered_are x.legal.named);
-      cells = leaf_printable inputs.settings limited.limits x.log legal;
-      totals = (omega (arith, most), (omega (arith, x.one_page), (omega (arith, limited.limits.pages.1), tt)));
+      replies = all_printable c limited.limits limited.metric o.log legal o.allotted 0 inputs.scripts o.replies limited.scripts played.legal.right;
+      log = events_printable c limited.limits (length inputs.scripts) 200000 limited.few (omega arith) o.log (log_small c limited.limits o.log legal)
+          (entries_small (length inputs.scripts) 200000 (entered o.log) played.legal.named (λ k low. own_small 200000 o.log 0 inputs.scripts o.replies short played.legal.entered_are k k (omega arith) low));
+      cells = leaf_printable c limited.limits o.log legal;
+      totals = (omega (arith, few.0), (omega (arith, few.1), (omega (arith, limited.limits.pages.1), tt)));
     }
 
 pub one_history : OneHistory
 one_history a b s t text la lb x y =
-    let same = one_meaning (outcome_of a s text x) (outcome_of b t text y) (printable a s text x la) (printable b t text y lb) (sym x.text_is ∙ y.text_is) in
+    let same = one_meaning (outcome_of a x.outcome) (outcome_of b y.outcome) (printable a x.outcome x.played la) (printable b y.outcome y.played lb) (sym x.text_is ∙ y.text_is) in
     (same.log, same.replies)

@@ -1,16 +1,12 @@
 -- What a call may answer, and the text beside it.
-use Rattle.std.specs.Prelude.{◌≡◌, ℕ, zero, suc, ◌≤◌, ◌||◌, Bool, true, false, cond, List, [], ◌∷◌, length, codes, Option, Some, None, Result, Ok, Err, ◌⊎◌}
+use Rattle.std.specs.Prelude.{◌≡◌, ℕ, zero, suc, ◌≤◌, Bool, true, false, List, [], ◌∷◌, codes, Option, Some, None, Result, Ok, Err, ◌⊎◌}
 use Rattle.std.specs.Fmt.{decimal}
-use Rattle.mi_base.specs.declared.records.Reply.{Reply}
-use Rattle.mi_base.specs.declared.records.LogEvent.{LogEvent}
-use Rattle.mi_base.specs.History.{live, updates_of}
 use Rattle.mi_input.specs.declared.faults.Reason.{Reason}
 use Rattle.mi_input.specs.declared.faults.Reason.TheVariants as reason
 use Rattle.mi_outside.specs.Outside.{Rose, SendsPart, SendsWhole}
 use Rattle.mi_outside.specs.States.{FilesState, SinkState}
-use Rattle.mi_legal.specs.InTurn.{AloneInTurn}
-use Rattle.mi_tree.specs.Legal.{Settled}
-use Rattle.mi_legal.specs.Legal.{Legal}
+use Rattle.mi_replay.specs.Outcomes.{Played}
+use Rattle.mi_tree.specs.declared.outcomes.Outcome.{Outcome}
 use Rattle.mi_print.specs.Render.{line, number_line, rendering}
 use Rattle.mi_table.specs.declared.faults.TableFault.{TableFault}
 use Rattle.mi_table.specs.declared.faults.TableFault.TheVariants as table
@@ -19,9 +15,7 @@ use Rattle.mindex.specs.declared.refusals.Refusal.TheVariants.{Record, Table}
 use Rattle.mindex.specs.declared.statuses.Status.{Status}
 use Rattle.mindex.specs.declared.statuses.Status.TheVariants as status
 use Rattle.mindex.specs.Statuses.{status_number}
-use Rattle.mindex.specs.Inputs.{Names, Texts, Inputs, AreTextsOf, inputs_of, GoodBefore}
-use Rattle.mi_plain.specs.Answering.{RanAlone}
-use Rattle.mi_legal.specs.Want.{has_memory}
+use Rattle.mindex.specs.Inputs.{Names, Texts, Inputs, AreTextsOf, EachHas, inputs_of, GoodBefore}
 
 abbrev pub usage_line : List ℕ
 usage_line = line (codes "usage: mindex replay SETTINGS SCHEDULE SCRIPT... | run SETTINGS SCRIPT... | make SEED | choose SETTINGS SCRIPT COUNT") []
@@ -41,7 +35,6 @@ reason_word reason.Limit = codes "limit"
 reason_word reason.End = codes "end"
 reason_word reason.Extra = codes "extra"
 reason_word reason.Large = codes "large"
-reason_word reason.Unbuilt = codes "unbuilt"
 
 -- a fault's file and record, its reason, and the places that show it
 abbrev pub fault_line : ℕ → ℕ → List ℕ → List (List ℕ) → List ℕ
@@ -64,23 +57,12 @@ refusal_status (Record zero number why) = status.BadSettings
 refusal_status (Record (suc file) number why) = status.BadFile
 refusal_status (Table fault) = status.BadSettings
 
--- THE HEADLINE. The text is the transcript of replies and a log that are legal for the script, and each operation found the log as
--- those before it and the splits so far left it. Where the splitter gave up no split, no leaf is left to be split.
+-- THE HEADLINE. The text is the transcript of an outcome of the scripts after the schedule.
 pub record IsTranscript (inputs : Inputs) (short : Bool) (text : List ℕ) : Type 0 where
-  pub replies : List (List Reply)
-  pub log : List LogEvent
-  pub entries : ℕ
-  pub allotted : ℕ
-  pub given_up : Bool
-  pub legal : Legal inputs.settings (inputs.script ∷ []) replies log allotted
-  pub turns : AloneInTurn replies
-  pub ran : RanAlone inputs.settings inputs.script replies log
-  pub entries_are : entries ≡ length (live (updates_of log))
-  pub settled : given_up ≡ false → Settled inputs.settings log
-  pub one_page : allotted ≡ 1
-  pub only_under_pivots : given_up ≡ true → 1 ≤ length inputs.settings.pivots
-  pub short_is : short ≡ (has_memory replies || given_up)
-  pub text_is : text ≡ rendering inputs.settings replies log entries allotted
+  pub outcome : Outcome
+  pub played : Played inputs.settings inputs.scripts inputs.schedule outcome
+  pub short_is : short ≡ outcome.short
+  pub text_is : text ≡ rendering inputs.settings outcome.replies outcome.log outcome.entries outcome.allotted
 
 -- a file isn't of its form: the first in the order of the words, by what was found in the files
 pub record IsRefusal {X : Type 0} (found : Result X Refusal) (said : Status) (text : List ℕ) : Type 0 where
@@ -98,7 +80,7 @@ pub record IsUnread (GoodUpTo : ℕ → Type 0) (old new : FilesState) (said : S
   pub said_is : said ≡ status.Unread
   pub text_is : text ≡ unread_line file
 
--- the status of a transcript: it is short where a reply is missing for want of memory, or a split was given up for it
+-- the status of a transcript: it is short where memory was wanted
 abbrev pub transcript_status : Bool → Status
 transcript_status true = status.Short
 transcript_status false = status.Done
@@ -165,13 +147,13 @@ pub record Replayed (inputs : Inputs) (old new : SinkState) (ended : Status) : T
 pub record Tells (files : FilesState) (names : Names) (texts : Texts) : Type 0 where
   pub settings : files.content names.settings ≡ Some texts.settings
   pub schedule : files.content names.schedule ≡ Some texts.schedule
-  pub script : files.content names.script ≡ Some texts.script
+  pub scripts : EachHas (λ name text. files.content name ≡ Some text) names.scripts texts.scripts
 
 -- the number of a call that ran its inputs, or that wanted memory
 abbrev pub IsRunNumber : ℕ → Type 0
 IsRunNumber number = (number ≡ status_number status.Done) ⊎ ((number ≡ status_number status.Short) ⊎ (number ≡ status_number status.NoMemory))
 
--- Where the words are served, the files tell inputs that are good, and no fault was counted, the script was run, unless memory was wanted.
+-- Where the words are served, the files tell inputs that are good, and no fault was counted, the scripts were run, unless memory was wanted.
 abbrev pub Completes : Option Names → FilesState → FilesState → SinkState → SinkState → ℕ → Type 0
 Completes None old new out out' number = Unit {0}
 Completes (Some names) old new out out' number =

@@ -1,5 +1,5 @@
 -- A call that chooses pivots: its words, what its files say, and what it may answer.
-use Rattle.std.specs.Prelude.{◌≡◌, ℕ, zero, suc, ℤ, List, [], ◌∷◌, ◌++◌, map, bytes_eq, codes, Bool, true, false, Option, Some, None, Result, Ok, Err, IsOk, ◌⊎◌, if◌then◌else◌}
+use Rattle.std.specs.Prelude.{◌≡◌, ℕ, zero, suc, ℤ, List, [], ◌∷◌, ◌++◌, map, bytes_eq, codes, Option, Some, None, Result, Ok, Err, IsOk, ◌⊎◌, if◌then◌else◌}
 use Rattle.std.specs.Fmt.{signed_decimal}
 use Rattle.std.specs.List.{filter_map, flat_map}
 use Rattle.mi_base.specs.declared.limits.TheConstants.{MAX_PIVOTS}
@@ -19,8 +19,8 @@ use Rattle.mindex.specs.declared.refusals.Refusal.{Refusal}
 use Rattle.mindex.specs.declared.statuses.Status.{Status}
 use Rattle.mindex.specs.declared.statuses.Status.TheVariants as status
 use Rattle.mindex.specs.Statuses.{status_number}
-use Rattle.mindex.specs.Inputs.{IsTextOf, in_file, names_in, settings_from}
-use Rattle.mindex.specs.Calls.{Answered, Completes, Ends, IsRefusal, IsUnread, IsWant, Says, usage_line}
+use Rattle.mindex.specs.Inputs.{IsTextOf, in_file, settings_from}
+use Rattle.mindex.specs.Calls.{Ends, IsRefusal, IsUnread, IsWant, usage_line}
 
 -- the names of the settings and the script
 pub record ChooseNames : Type 0 where
@@ -45,11 +45,6 @@ choose_words_in (a ∷ []) = None
 choose_words_in (a ∷ b ∷ []) = None
 choose_words_in (a ∷ b ∷ c ∷ []) = None
 choose_words_in (a ∷ b ∷ c ∷ d ∷ e ∷ words) = None
-
--- the first word names this command
-abbrev pub begins_choose : List (List ℕ) → Bool
-begins_choose [] = false
-begins_choose (command ∷ words) = bytes_eq command (codes "choose")
 
 -- the texts of the two files
 pub record ChooseTexts : Type 0 where
@@ -142,12 +137,3 @@ pub record Proposed (inputs : ChooseInputs) (count : ℕ) (old new : SinkState) 
   pub text : List ℕ
   pub says : ((said ≡ status.Done) × IsChoiceText inputs count text) ⊎ IsWant said text
   pub ends : Ends said text old new ended
-
--- what the command that the first word names says, and whether it ran what was good
-abbrev pub CommandSays : Bool → List (List ℕ) → FilesState → FilesState → Status → List ℕ → Type 0
-CommandSays true words = ChooseSays (choose_words_in words)
-CommandSays false words = Says (names_in words)
-
-abbrev pub CommandCompletes : Bool → List (List ℕ) → FilesState → FilesState → SinkState → SinkState → ℕ → Type 0
-CommandCompletes true words = ChooseCompletes (choose_words_in words)
-CommandCompletes false words = Completes (names_in words)

@@ -1,6 +1,6 @@
 -- What the words and the files of a call say.
-use Rattle.std.specs.Prelude.{◌≡◌, ℕ, zero, suc, List, [], ◌∷◌, length, bytes_eq, codes, Option, Some, None, IfSome, Result, Ok, Err, IsOk, nat_le, if◌then◌else◌}
-use Rattle.mi_base.specs.declared.limits.TheConstants.{MAX_FILE_SIZE}
+use Rattle.std.specs.Prelude.{◌≡◌, ◌+◌, ◌<◌, ◌&&◌, ℕ, zero, suc, List, [], ◌∷◌, length, take, bytes_eq, codes, Bool, Option, Some, None, IfSome, Result, Ok, Err, IsOk, nat_le, if◌then◌else◌}
+use Rattle.mi_base.specs.declared.limits.TheConstants.{MAX_FILE_SIZE, MAX_SESSIONS}
 use Rattle.mi_base.specs.declared.records.Op.{Op}
 use Rattle.mi_base.specs.declared.records.ScheduleItem.{ScheduleItem}
 use Rattle.mi_base.specs.Configuration.{Configuration}
@@ -15,36 +15,48 @@ use Rattle.mi_table.specs.Faults.{first_fault}
 use Rattle.mindex.specs.declared.refusals.Refusal.{Refusal}
 use Rattle.mindex.specs.declared.refusals.Refusal.TheVariants.{Record, Table}
 
--- the names of the settings, the schedule and the script
+-- the names of the settings, the schedule and the scripts
 pub record Names : Type 0 where
   pub settings : List ℕ
   pub schedule : List ℕ
-  pub script : List ℕ
+  pub scripts : List (List ℕ)
 
--- the words that are served are a command and three names
+-- a script for each of 1 to 16 sessions
+abbrev pub are_sessions : List (List ℕ) → Bool
+are_sessions scripts = nat_le 1 (length scripts) && nat_le (length scripts) MAX_SESSIONS
+
+-- the words that are served are a command, the names of the settings and the schedule, and those of the scripts
 abbrev pub names_in : List (List ℕ) → Option Names
-names_in (command ∷ settings ∷ schedule ∷ script ∷ []) =
-    if bytes_eq command (codes "replay") then Some (record { settings = settings; schedule = schedule; script = script }) else None
+names_in (command ∷ settings ∷ schedule ∷ scripts) =
+    if bytes_eq command (codes "replay") && are_sessions scripts then Some (record { settings = settings; schedule = schedule; scripts = scripts }) else None
 names_in [] = None
 names_in (a ∷ []) = None
 names_in (a ∷ b ∷ []) = None
-names_in (a ∷ b ∷ c ∷ []) = None
-names_in (a ∷ b ∷ c ∷ d ∷ e ∷ words) = None
 
--- the texts of the three files
+-- the texts of the files
 pub record Texts : Type 0 where
   pub settings : List ℕ
   pub schedule : List ℕ
-  pub script : List ℕ
+  pub scripts : List (List ℕ)
+
+-- each name has its text
+abbrev pub EachHas : (List ℕ → List ℕ → Type 0) → List (List ℕ) → List (List ℕ) → Type 0
+EachHas its [] [] = Unit {0}
+EachHas its (name ∷ names) (text ∷ texts) = its name text × EachHas its names texts
+EachHas its (name ∷ names) [] = ⊥
+EachHas its [] (text ∷ texts) = ⊥
 
 -- a text is that of a file, where the file tells its content
 abbrev pub IsTextOf : Option (List ℕ) → List ℕ → Type 0
 IsTextOf told text = IfSome told (λ content. text ≡ content)
 
+abbrev pub AreScriptTexts : FilesState → List (List ℕ) → List (List ℕ) → Type 0
+AreScriptTexts files names texts = EachHas (λ name text. IsTextOf (files.content name) text) names texts
+
 pub record AreTextsOf (files : FilesState) (names : Names) (texts : Texts) : Type 0 where
   pub settings : IsTextOf (files.content names.settings) texts.settings
   pub schedule : IsTextOf (files.content names.schedule) texts.schedule
-  pub script : IsTextOf (files.content names.script) texts.script
+  pub scripts : AreScriptTexts files names.scripts texts.scripts
 
 -- a fault with the place of its file
 abbrev pub at_file : {X : Type 0} → ℕ → Result X Fault → Result X Refusal
@@ -67,27 +79,46 @@ settings_from text = in_file 0 settings_in text >>= λ c. settings_or_fault c (f
 abbrev pub settings_of : Texts → Result Configuration Refusal
 settings_of texts = settings_from texts.settings
 
+-- the schedule gives turns to as many sessions as there are scripts
 abbrev pub schedule_of : Texts → Result (List ScheduleItem) Refusal
-schedule_of texts = in_file 1 (schedule_in 1) texts.schedule
+schedule_of texts = in_file 1 (schedule_in (length texts.scripts)) texts.schedule
 
-abbrev pub script_of : Configuration → Texts → Result (List Op) Refusal
-script_of c texts = in_file 2 (script_in c) texts.script
+-- the scripts that texts are, the first of which is the file at this place, or the first refusal
+abbrev pub scripts_from : Configuration → ℕ → List (List ℕ) → Result (List (List Op)) Refusal
+scripts_from c file [] = Ok []
+scripts_from c file (text ∷ texts) = do
+  script ← in_file file (script_in c) text
+  scripts ← scripts_from c (file + 1) texts
+  Ok (script ∷ scripts)
+
+-- they stand behind the settings and the schedule
+abbrev pub scripts_of : Configuration → List (List ℕ) → Result (List (List Op)) Refusal
+scripts_of c texts = scripts_from c 2 texts
 
 -- what a call runs
 pub record Inputs : Type 0 where
   pub settings : Configuration
   pub schedule : List ScheduleItem
-  pub script : List Op
+  pub scripts : List (List Op)
 
 -- the inputs that the texts are, or the first refusal in the order of the files
 abbrev pub inputs_of : Texts → Result Inputs Refusal
-inputs_of texts =
-    settings_of texts >>= λ c. schedule_of texts >>= λ items. script_of c texts >>= λ ops.
-    Ok (record { settings = c; schedule = items; script = ops })
+inputs_of texts = do
+  c ← settings_of texts
+  items ← schedule_of texts
+  scripts ← scripts_of c texts.scripts
+  Ok (record { settings = c; schedule = items; scripts = scripts })
+
+-- so many scripts are good, and there is one more
+pub record ScriptsGoodBefore (count : ℕ) (texts : Texts) : Type 0 where
+  pub more : count < length texts.scripts
+  pub settings : Configuration
+  pub settings_are : settings_of texts ≡ Ok settings
+  pub schedule : IsOk (schedule_of texts)
+  pub scripts : IsOk (scripts_of settings (take count texts.scripts))
 
 -- each file before this one is good
 abbrev pub GoodBefore : ℕ → Texts → Type 0
 GoodBefore zero texts = Unit {0}
 GoodBefore (suc zero) texts = IsOk (settings_of texts)
-GoodBefore (suc (suc zero)) texts = IsOk (settings_of texts) × IsOk (schedule_of texts)
-GoodBefore (suc (suc (suc file))) texts = ⊥
+GoodBefore (suc (suc count)) texts = ScriptsGoodBefore count texts

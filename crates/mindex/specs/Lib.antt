@@ -5,3 +5,5 @@ pub mod Meaning
 pub mod Statuses
 pub mod Choosing
 pub mod ChooseLoading
+pub mod Making
+pub mod Commands

@@ -1,10 +1,14 @@
 -- How the files of a call are read and found good or not.
-use Rattle.std.specs.Prelude.{◌≡◌, ℕ, ◌≤◌, List, None, Some, Result, Ok, Err}
+use Rattle.std.specs.Prelude.{◌≡◌, ℕ, suc, ◌<◌, ◌≤◌, List, length, take, None, Some, Result, Ok, Err, IsOk}
+use Rattle.std.specs.List.{AllByRecursion}
+use Rattle.mi_base.specs.declared.limits.TheConstants.{MAX_SESSIONS}
+use Rattle.mi_base.specs.declared.records.Op.{Op}
 use Rattle.mi_base.specs.Configuration.{Configuration, metric_space}
 use Rattle.mi_base.specs.Scripts.{IsScriptOver}
 use Rattle.mi_input.specs.declared.faults.Reason.TheVariants as reason
 use Rattle.mi_input.specs.declared.faults.InputFault.{InputFault}
 use Rattle.mi_input.specs.declared.faults.InputFault.TheVariants as input
+use Rattle.mi_input.specs.Schedules.{IsScheduleOf}
 use Rattle.mi_outside.specs.declared.reading.ReadRefusal.{ReadRefusal}
 use Rattle.mi_outside.specs.declared.reading.ReadRefusal.TheVariants as read
 use Rattle.mi_outside.specs.Outside.{Rose}
@@ -20,7 +24,7 @@ use Rattle.mindex.specs.declared.loading.Loaded.{Loaded}
 use Rattle.mindex.specs.declared.statuses.Status.{Status}
 use Rattle.mindex.specs.declared.statuses.Status.TheVariants as status
 use Rattle.mindex.specs.Calls.{memory_line, refusal_line, refusal_status, unread_line}
-use Rattle.mindex.specs.Inputs.{Names, Texts, Inputs, IsTextOf, AreTextsOf, GoodBefore, inputs_of}
+use Rattle.mindex.specs.Inputs.{Names, Texts, Inputs, IsTextOf, AreScriptTexts, AreTextsOf, GoodBefore, inputs_of, scripts_of}
 
 -- one file was read, and this was found in it; file is its place
 abbrev pub Finds : {X : Type 0} → ℕ → FilesState → FilesState → Result X Refusal → Result X Stop → Type 0
@@ -46,12 +50,29 @@ HasMetric c (Err Memory) = Unit {0}
 
 -- inputs as contracts see them
 abbrev pub inputs_in : Loaded → Inputs
-inputs_in l = record { settings = l.settings; schedule = l.schedule; script = l.script }
+inputs_in l = record { settings = l.settings; schedule = l.schedule; scripts = l.scripts }
 
 -- inputs that may be run
 pub record MayRun (l : Loaded) : Type 0 where
   pub space : any_space l.metric ≡ metric_space l.settings
-  pub script : IsScriptOver (metric_space l.settings) l.script
+  pub some : 1 ≤ length l.scripts
+  pub few : length l.scripts ≤ MAX_SESSIONS
+  pub schedule : IsScheduleOf (length l.scripts) l.schedule
+  pub scripts : AllByRecursion (IsScriptOver (metric_space l.settings)) l.scripts
+
+-- what the texts of scripts are, as far as they were read
+abbrev pub FindsScripts : Configuration → List (List ℕ) → FilesState → FilesState → Result (List (List Op)) Stop → Type 0
+FindsScripts c texts old new (Ok scripts) = (scripts_of c texts ≡ Ok scripts) × AllByRecursion (IsScriptOver (metric_space c)) scripts × (new.faults ≡ old.faults)
+FindsScripts c texts old new (Err (Refused refusal)) = (scripts_of c texts ≡ Err refusal) × (new.faults ≡ old.faults)
+FindsScripts c texts old new (Err (Unread file)) = (count : ℕ) × (file ≡ suc (suc count)) × (count < length texts) × IsOk (scripts_of c (take count texts)) × Rose old.faults new.faults
+FindsScripts c texts old new (Err Memory) = new.faults ≡ old.faults
+
+-- the scripts of these names were read one after another, as far as needed
+pub record LoadsScripts (c : Configuration) (names : List (List ℕ)) (old new : FilesState) (result : Result (List (List Op)) Stop) : Type 0 where
+  pub texts : List (List ℕ)
+  pub told : AreScriptTexts old names texts
+  pub finds : FindsScripts c texts old new result
+  pub grows : old.faults ≤ new.faults
 
 -- what the texts are, as far as they were read
 abbrev pub FindsAll : Texts → FilesState → FilesState → Result Loaded Stop → Type 0

@@ -2,7 +2,7 @@
 ghost use Rattle.std.specs.Prelude.{◌≡◌, ◌<◌, ◌≤◌, ℕ, All, IfOk, IfSome, IsSome, IsTrue, length, map, option_map};
 ghost use Rattle.std.specs.List.{AllByRecursion};
 ghost use Rattle.std.specs.String.{string_bytes};
-ghost use Rattle.mi_base.specs.declared.limits.TheConstants.{MAX_PIVOTS, MAX_UPDATES};
+ghost use Rattle.mi_base.specs.declared.limits.TheConstants.{MAX_OPS, MAX_PIVOTS};
 ghost use Rattle.mi_base.specs.Scripts.{IsScriptOver};
 ghost use Rattle.mi_base.specs.Space.{MetricSpace};
 ghost use Rattle.mi_choose.specs.Farthest.{IsFarthestFirst};
@@ -59,7 +59,7 @@ fn load_candidates<F: Files>(
 fn objects_of(alloc: Global, script: &Script) -> Result<VectorList, NoMemory>
     ensures value { IfOk result (λ objects. objects ≡ objects_of script.now) }
     ensures fit { (m : MetricSpace) → IsScriptOver m script.now → IfOk result (λ objects. AllByRecursion (λ v. IsTrue (m.fits v)) objects) }
-    ensures few { (m : MetricSpace) → IsScriptOver m script.now → IfOk result (λ objects. length objects ≤ MAX_UPDATES) }
+    ensures few { (m : MetricSpace) → IsScriptOver m script.now → IfOk result (λ objects. length objects ≤ MAX_OPS) }
 {
     let mut objects = VectorList::new(alloc);
     for op in script.as_slice() {
@@ -82,7 +82,7 @@ fn choose_with<M: Metric, L: Ledger>(
     requires parts { blank.parts ≡ L.parts }
     requires some_parts { 0 < blank.parts }
     requires objects { AllByRecursion (λ v. IsTrue ((M.space metric.now).fits v)) objects.now }
-    requires few { length objects.now ≤ MAX_UPDATES }
+    requires few { length objects.now ≤ MAX_OPS }
     requires some { 1 ≤ count }
     requires most { count ≤ MAX_PIVOTS }
     ensures choice { IfOk result (IsFarthestFirst (M.space metric.now) objects.now count) }
@@ -100,7 +100,7 @@ fn choice_of<M: Metric>(
     count: u32,
 ) -> Result<Choice, NoMemory>
     requires objects { AllByRecursion (λ v. IsTrue ((M.space metric.now).fits v)) objects.now }
-    requires few { length objects.now ≤ MAX_UPDATES }
+    requires few { length objects.now ≤ MAX_OPS }
     requires some { 1 ≤ count }
     requires most { count ≤ MAX_PIVOTS }
     ensures choice { IfOk result (IsFarthestFirst (M.space metric.now) objects.now count) }

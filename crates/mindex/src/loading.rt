@@ -1,20 +1,25 @@
 //! Reads the files of a call, in the order of the words.
-ghost use Rattle.std.specs.Prelude.{◌≡◌, IfOk};
+ghost use Rattle.std.specs.Prelude.{◌≡◌, ◌≤◌, IfOk, length, map};
+ghost use Rattle.std.specs.String.{string_bytes};
+ghost use Rattle.mi_base.specs.declared.limits.TheConstants.{MAX_SESSIONS};
 ghost use Rattle.mi_base.specs.Configuration.{metric_space};
 ghost use Rattle.mi_base.specs.Scripts.{IsScriptOver};
-ghost use Rattle.mi_input.specs.Schedules.{schedule_in};
+ghost use Rattle.mi_input.specs.Schedules.{IsScheduleOf, schedule_in};
 ghost use Rattle.mi_input.specs.Scripts.{script_in};
 ghost use Rattle.mi_input.specs.Settings.{settings_in};
 ghost use Rattle.mi_outside.specs.Outside.{KeepsContents};
 ghost use Rattle.mindex.specs.Inputs.{in_file};
-ghost use Rattle.mindex.specs.Loading.{HasMetric, Loads, LoadsAll, fault_stop, refusal_stop};
+ghost use Rattle.mindex.specs.Loading.{HasMetric, Loads, LoadsAll, LoadsScripts, fault_stop, refusal_stop};
 
 use crate::refusals::{Refusal, Stop};
-use mi_base::{Schedule, Script, Settings};
+use mi_base::{Schedule, Script, Sequence, Settings};
 use mi_input::{InputFault, Reason, read_schedule, read_script, read_settings};
 use mi_outside::{Files, ReadRefusal};
 use mi_table::{AnyMetric, TableFault};
 use std::alloc::Global;
+
+/// The scripts of all sessions.
+pub type Scripts = Sequence<Script>;
 
 /// What a call runs.
 #[derive(Drop)]
@@ -22,7 +27,7 @@ pub struct Loaded {
     pub settings: Settings,
     pub metric: AnyMetric,
     pub schedule: Schedule,
-    pub script: Script,
+    pub scripts: Scripts,
 }
 
 /// A file that is too large has no record that is looked at.
@@ -64,13 +69,20 @@ pub fn load_settings<F: Files>(alloc: Global, name: &str, files: &mut F) -> Resu
     }
 }
 
-fn load_schedule<F: Files>(alloc: Global, name: &str, files: &mut F) -> Result<Schedule, Stop>
-    ensures loads { Loads (F.state files.old) (F.state files.new) name.now 1 (in_file 1 (schedule_in 1)) result }
+/// Reads the schedule, the second file, for so many sessions.
+fn load_schedule<F: Files>(
+    alloc: Global,
+    name: &str,
+    sessions: u32,
+    files: &mut F,
+) -> Result<Schedule, Stop>
+    ensures loads { Loads (F.state files.old) (F.state files.new) name.now 1 (in_file 1 (schedule_in sessions)) result }
     ensures contents { KeepsContents (F.state files.old) (F.state files.new) }
+    ensures schedule { IfOk result (IsScheduleOf sessions) }
 {
     let mut bytes = Vec::new(alloc);
     match files.read(name, &mut bytes) {
-        Ok(()) => match read_schedule(alloc, bytes.as_slice(), 1) {
+        Ok(()) => match read_schedule(alloc, bytes.as_slice(), sessions) {
             Ok(schedule) => Ok(schedule),
             Err(fault) => Err(fault_of(1, fault)),
         },
@@ -78,7 +90,7 @@ fn load_schedule<F: Files>(alloc: Global, name: &str, files: &mut F) -> Result<S
     }
 }
 
-/// Reads the script, whose name is at this place among the names.
+/// Reads a script, whose name is at this place among the names.
 pub fn load_script<F: Files>(
     alloc: Global,
     name: &str,
@@ -100,6 +112,26 @@ pub fn load_script<F: Files>(
     }
 }
 
+/// Reads the scripts in their order. They stand behind the settings and the schedule.
+fn load_scripts<F: Files>(
+    alloc: Global,
+    names: &[String],
+    settings: &Settings,
+    files: &mut F,
+) -> Result<Scripts, Stop>
+    requires { length names.now ≤ MAX_SESSIONS }
+    ensures loads { LoadsScripts settings.now (map string_bytes names.now) (F.state files.old) (F.state files.new) result }
+    ensures contents { KeepsContents (F.state files.old) (F.state files.new) }
+{
+    let mut scripts = Scripts::new(alloc);
+    for name in names {
+        let file = scripts.len() as u32 + 2;
+        let script = load_script(alloc, name.as_str(), file, settings, files)?;
+        scripts.push(script)?;
+    }
+    Ok(scripts)
+}
+
 /// The metric of the settings, unless their table has a fault.
 pub fn metric_of(alloc: Global, settings: &Settings) -> Result<AnyMetric, Stop>
     ensures { HasMetric settings.now result }
@@ -111,25 +143,28 @@ pub fn metric_of(alloc: Global, settings: &Settings) -> Result<AnyMetric, Stop>
     }
 }
 
-/// Reads the settings, the schedule and the script, each before the next.
+/// Reads the settings, the schedule and the scripts, each before the next.
 pub fn load<F: Files>(
     alloc: Global,
     settings_name: &str,
     schedule_name: &str,
-    script_name: &str,
+    script_names: &[String],
     files: &mut F,
 ) -> Result<Loaded, Stop>
-    ensures loads { LoadsAll (record { settings = settings_name.now; schedule = schedule_name.now; script = script_name.now }) (F.state files.old) (F.state files.new) result }
+    requires some { 1 ≤ length script_names.now }
+    requires few { length script_names.now ≤ MAX_SESSIONS }
+    ensures loads { LoadsAll (record { settings = settings_name.now; schedule = schedule_name.now; scripts = map string_bytes script_names.now }) (F.state files.old) (F.state files.new) result }
     ensures contents { KeepsContents (F.state files.old) (F.state files.new) }
 {
     let settings = load_settings(alloc, settings_name, files)?;
     let metric = metric_of(alloc, &settings)?;
-    let schedule = load_schedule(alloc, schedule_name, files)?;
-    let script = load_script(alloc, script_name, 2, &settings, files)?;
+    let sessions = script_names.len() as u32;
+    let schedule = load_schedule(alloc, schedule_name, sessions, files)?;
+    let scripts = load_scripts(alloc, script_names, &settings, files)?;
     Ok(Loaded {
         settings,
         metric,
         schedule,
-        script,
+        scripts,
     })
 }

@@ -1,16 +1,18 @@
 //! An exact similarity index in memory: replays scripts of updates and queries.
 #![tactic(auto)]
 
-ghost use Rattle.std.specs.Prelude.{◌≡◌, map};
+ghost use Rattle.std.specs.Prelude.{map};
 ghost use Rattle.std.specs.String.{string_bytes};
 ghost use Rattle.mi_outside.specs.Outside.{KeepsContents};
 ghost use Rattle.mindex.specs.Calls.{Answered};
-ghost use Rattle.mindex.specs.Choosing.{CommandCompletes, CommandSays, begins_choose};
+ghost use Rattle.mindex.specs.Commands.{CommandCompletes, CommandSays, command_in};
 
 mod adapters;
 mod choosing;
+mod commands;
 mod laws;
 mod loading;
+mod making;
 mod proposals;
 mod refusals;
 mod replaying;
@@ -21,7 +23,9 @@ mod texts;
 
 use adapters::{RealFiles, RealOut};
 use choosing::choose_call;
+use commands::{Command, command_of};
 pub use laws::one_text_has_one_history;
+use making::make_call;
 use mi_outside::{Files, Gate, OpenGate, Sink};
 use refusals::Stop;
 use replaying::{replay_call, stopped};
@@ -32,13 +36,6 @@ use std::sync::Wait;
 use std::thread::Threads;
 use std::{env, io};
 
-/// The first word names the command that chooses pivots.
-fn names_choose(words: &[String]) -> bool
-    ensures { result ≡ begins_choose (map string_bytes words.now) }
-{
-    !words.is_empty() && words[0].as_str() == "choose"
-}
-
 /// Runs the command that the words name. They are those behind the program's name.
 pub fn mindex<R: Threads + Wait + Sync, F: Files, S: Sink, G: Gate>(
     _rt: &R,
@@ -48,14 +45,14 @@ pub fn mindex<R: Threads + Wait + Sync, F: Files, S: Sink, G: Gate>(
     out: &mut S,
     _gate: &G,
 ) -> u8
-    ensures answered { Answered (CommandSays (begins_choose (map string_bytes words.now)) (map string_bytes words.now)) (F.state files.old) (F.state files.new) (S.state out.old) (S.state out.new) result }
-    ensures complete { CommandCompletes (begins_choose (map string_bytes words.now)) (map string_bytes words.now) (F.state files.old) (F.state files.new) (S.state out.old) (S.state out.new) result }
+    ensures answered { Answered (CommandSays (command_in (map string_bytes words.now)) (map string_bytes words.now)) (F.state files.old) (F.state files.new) (S.state out.old) (S.state out.new) result }
+    ensures complete { CommandCompletes (command_in (map string_bytes words.now)) (map string_bytes words.now) (F.state files.old) (F.state files.new) (S.state out.old) (S.state out.new) result }
     ensures contents { KeepsContents (F.state files.old) (F.state files.new) }
 {
-    if names_choose(words) {
-        choose_call(alloc, words, files, out)
-    } else {
-        replay_call(alloc, words, files, out)
+    match command_of(words) {
+        Command::Choose => choose_call(alloc, words, files, out),
+        Command::Make => make_call(alloc, words, out),
+        Command::Replay => replay_call(alloc, words, files, out),
     }
 }
 

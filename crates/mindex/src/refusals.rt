@@ -1,5 +1,9 @@
 //! Why the files of a call are no inputs.
 
+ghost use Rattle.std.specs.Prelude.{◌≡◌};
+ghost use Rattle.mindex.specs.declared.refusals.Stop.TheVariants.{Memory};
+
+use mi_base::NoMemory;
 use mi_input::Reason;
 use mi_table::TableFault;
 
@@ -20,4 +24,12 @@ pub enum Stop {
     Unread { file: u32 },
     /// Memory was wanted and there was none.
     Memory,
+}
+
+impl From<NoMemory> for Stop {
+    ghost from_gives = { λ _ stop. stop ≡ Memory };
+
+    fn from(_: NoMemory) -> Stop {
+        Stop::Memory
+    }
 }

@@ -1,7 +1,8 @@
 //! The command that replays scripts.
-ghost use Rattle.std.specs.Prelude.{◌≡◌, OnErr, OnOk, IsTrue, is_some, length, map};
+ghost use Rattle.std.specs.Prelude.{◌≡◌, ◌+◌, ◌≤◌, IfOk, OnErr, OnOk, IsTrue, is_some, length, map};
 ghost use Rattle.std.specs.String.{string_bytes};
 ghost use Rattle.mi_outside.specs.Outside.{KeepsContents};
+ghost use Rattle.mi_replay.specs.Outcomes.{Played};
 ghost use Rattle.mindex.specs.Calls.{Answered, Answers, Completes, Ends, Replayed, Says};
 ghost use Rattle.mindex.specs.Inputs.{names_in};
 ghost use Rattle.mindex.specs.Loading.{MayRun, inputs_in, stop_line, stop_status};
@@ -10,9 +11,12 @@ use crate::loading::{Loaded, load};
 use crate::refusals::Stop;
 use crate::statuses::Status;
 use crate::texts::{refusal_status, send_memory, send_refusal, send_unread, send_usage};
+use mi_base::{MAX_SESSIONS, NoMemory};
 use mi_outside::{Files, Sink, SinkFailed};
-use mi_plain::run_script;
+use mi_perm::Pivots;
 use mi_print::render;
+use mi_replay::replay;
+use mi_tree::Outcome;
 use std::alloc::Global;
 
 /// The status of a text that was sent whole, or else that of a failed write.
@@ -26,12 +30,29 @@ pub fn ended(said: Status, sent: Result<(), SinkFailed>) -> Status
     }
 }
 
-/// Runs the script and sends what comes of it: the transcript, or the line of want of memory.
+/// Runs the scripts after the schedule.
+fn play(alloc: Global, inputs: &Loaded) -> Result<Outcome, NoMemory>
+    requires { MayRun inputs.now }
+    ensures { IfOk result (Played inputs.now.settings inputs.now.scripts inputs.now.schedule) }
+{
+    let pivots = Pivots::new(alloc, &inputs.settings.pivots)?;
+    let scripts = inputs.scripts.as_slice();
+    replay(
+        alloc,
+        &inputs.settings,
+        &inputs.metric,
+        &pivots,
+        scripts,
+        &inputs.schedule,
+    )
+}
+
+/// Runs the inputs and sends what comes of it: the transcript, or the line of want of memory.
 fn replay_inputs<S: Sink>(alloc: Global, inputs: &Loaded, out: &mut S) -> Status
     requires { MayRun inputs.now }
     ensures { Replayed (inputs_in inputs.now) (S.state out.old) (S.state out.new) result }
 {
-    match run_script(alloc, &inputs.settings, &inputs.metric, &inputs.script) {
+    match play(alloc, inputs) {
         Ok(outcome) => {
             let said = if outcome.short {
                 Status::Short
@@ -55,12 +76,13 @@ pub fn stopped<S: Sink>(stop: Stop, out: &mut S) -> Status
     }
 }
 
-/// The words are a command and three names.
+/// The words are a command, two names, and the names of 1 to 16 scripts.
 fn are_served(words: &[String]) -> bool
     ensures served { result ≡ is_some (names_in (map string_bytes words.now)) }
-    ensures four { IsTrue result → length words.now ≡ 4 }
+    ensures some { IsTrue result → 4 ≤ length words.now }
+    ensures few { IsTrue result → length words.now ≤ MAX_SESSIONS + 3 }
 {
-    words.len() == 4 && words[0].as_str() == "replay"
+    words.len() >= 4 && words.len() <= MAX_SESSIONS + 3 && words[0].as_str() == "replay"
 }
 
 fn answer_call<F: Files, S: Sink>(
@@ -77,14 +99,13 @@ fn answer_call<F: Files, S: Sink>(
     }
     let settings = words[1].as_str();
     let schedule = words[2].as_str();
-    let script = words[3].as_str();
-    match load(alloc, settings, schedule, script, files) {
+    match load(alloc, settings, schedule, &words[3..], files) {
         Ok(inputs) => replay_inputs(alloc, &inputs, out),
         Err(stop) => stopped(stop, out),
     }
 }
 
-/// Replays one script by an empty schedule. The words are those behind the program's name.
+/// Replays scripts after a schedule. The words are those behind the program's name.
 pub fn replay_call<F: Files, S: Sink>(
     alloc: Global,
     words: &[String],

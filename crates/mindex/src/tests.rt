@@ -1,8 +1,11 @@
 //! Tests of the command, from the bytes of its files to the bytes of its text.
 
 mod choices;
+mod makes;
 mod nearest;
 mod queries;
+mod schedules;
+mod sessions;
 mod workloads;
 
 use crate::adapters::{RealFiles, RealOut};
@@ -39,7 +42,7 @@ pub fn files_of(
     Ok(files)
 }
 
-fn words_of(alloc: Global, words: &[&str]) -> Result<Vec<String>, Fail> {
+pub fn words_of(alloc: Global, words: &[&str]) -> Result<Vec<String>, Fail> {
     let mut all = Vec::new(alloc);
     for word in words {
         all.push(String::from_str(alloc, *word)?)?;
@@ -51,8 +54,19 @@ pub fn replay_words(alloc: Global) -> Result<Vec<String>, Fail> {
     words_of(alloc, &["replay", "settings", "schedule", "script"])
 }
 
+/// The status and the text of a call.
+pub fn text_of_call(
+    alloc: Global,
+    words: &[String],
+    files: &mut MemoryFiles,
+) -> Result<(u8, MemorySink), Fail> {
+    let mut out = MemorySink::new(alloc, 1000, &[], 10_000)?;
+    let status = replay_call(alloc, words, files, &mut out);
+    Ok((status, out))
+}
+
 /// Settings, script and transcript: no operation, refused deletes and inserts, a full log, and leaves that are split.
-static TRANSCRIPTS: [(&[u8], &str, &str); 5] = [
+static TRANSCRIPTS: [(&[u8], &str, &str); 6] = [
     // under L1 without pivots
     (
         PLANE,
@@ -75,6 +89,11 @@ static TRANSCRIPTS: [(&[u8], &str, &str); 5] = [
         "insert,1,1\ninsert,2,2\ninsert,3,3\ninsert,4,4\ninsert,5,0\n",
         "session,0\nstored,1\nstored,2\nstored,3\nstored,4\nstored,5\nhistory,5,3\ninsert,0,1,1,1\ninsert,0,2,2,2\nsplit,0\ninsert,0,3,3,3\ninsert,0,4,4,4\nsplit,0.1\nsplit,0.1.2\ninsert,0,5,5,0\ncells,7\n0.1.2.3,5\n0.1.3,0\n0.2,0\n0.3,0\n1,0\n2,0\n3,0\nentries,5\npages,1,40\n",
     ),
+    (
+        b"metric,l1\ndims,1\npivot,0\npivot,10\npivot,20\nlevels,3\ncell,1\nupdates,64\npages,40\n",
+        "insert,1,1\ninsert,2,2\ninsert,3,3\n",
+        "session,0\nstored,1\nstored,2\nstored,3\nhistory,3,2\ninsert,0,1,1,1\ninsert,0,2,2,2\nsplit,0\ninsert,0,3,3,3\nsplit,0.1\ncells,4\n0.1.2,3\n0.2,0\n1,0\n2,0\nentries,3\npages,1,40\n",
+    ),
     // queries under pivots
     (
         b"metric,l1\ndims,1\npivot,0\npivot,10\nlevels,2\ncell,2\nupdates,64\npages,40\n",
@@ -84,7 +103,7 @@ static TRANSCRIPTS: [(&[u8], &str, &str); 5] = [
 ];
 
 /// Settings, script and the lines of the replies, up to the history.
-static REPLIES: [(&[u8], &str, &str); 12] = [
+static REPLIES: [(&[u8], &str, &str); 11] = [
     // under L1 without pivots
     (
         PLANE,
@@ -133,11 +152,6 @@ static REPLIES: [(&[u8], &str, &str); 12] = [
         "insert,5,5\n",
         "session,0\nstored,1\nhistory,",
     ),
-    (
-        b"metric,l1\ndims,1\npivot,0\npivot,10\npivot,20\nlevels,3\ncell,1\nupdates,64\npages,40\n",
-        "insert,1,1\ninsert,2,2\ninsert,3,3\n",
-        "session,0\nstored,1\nstored,2\nstored,3\nhistory,",
-    ),
     // queries under pivots
     (
         b"metric,l1\ndims,1\npivot,0\npivot,10\nlevels,2\ncell,4\nupdates,64\npages,40\n",
@@ -160,8 +174,7 @@ fn check_replay(
 ) -> Result<MemorySink, Fail> {
     let words = replay_words(alloc)?;
     let mut files = files_of(alloc, settings, b"", script.as_bytes(), &[])?;
-    let mut out = MemorySink::new(alloc, 1000, &[], 10_000)?;
-    let status = replay_call(alloc, words.as_slice(), &mut files, &mut out);
+    let (status, out) = text_of_call(alloc, words.as_slice(), &mut files)?;
     assert_eq!(rt; status, 0, "{script}");
     Ok(out)
 }
@@ -399,8 +412,8 @@ static FAULTS: [(&[u8], &[u8], &[u8], u8, &[u8]); 67] = [
         b"fault,0,3,range\n",
     ),
     (b"metric,table\ndims,2\n", b"", b"", 2, b"fault,0,2,range\n"),
-    (PLANE, b"0,op\n", b"x\n", 3, b"fault,1,1,unbuilt\n"),
-    (PLANE, b"\n\"\"\n", b"", 3, b"fault,1,1,unbuilt\n"),
+    (PLANE, b"1,op\n", b"x\n", 3, b"fault,1,1,range\n"),
+    (PLANE, b"\n\"\"\n", b"", 3, b"fault,1,1,word\n"),
     (PLANE, b"", b"x", 3, b"fault,2,1,word\n"),
     (PLANE, b"", b"\0", 3, b"fault,2,1,word\n"),
     (PLANE, b"", b"ins\xc3\xa9rt,1,0,0\n", 3, b"fault,2,1,word\n"),
@@ -569,14 +582,13 @@ fn other_words_have_the_usage_line(rt: HostRuntime) -> Result<(), Fail> {
     let usage =
         "usage: mindex replay SETTINGS SCHEDULE SCRIPT... | run SETTINGS SCRIPT... | make SEED | choose SETTINGS SCRIPT COUNT\n";
     let none: &[&str] = &[];
-    let cases: [&[&str]; 10] = [
+    let cases: [&[&str]; 9] = [
         none,
         &["choose"],
         &["choose", "settings", "script"],
         &["choose", "settings", "script", "33"],
         &["replay"],
         &["replay", "a", "b"],
-        &["replay", "a", "b", "c", "d"],
         &["run", "a", "b", "c"],
         &["make", "1", "b", "c"],
         &["Replay", "a", "b", "c"],

@@ -49,7 +49,6 @@ fn word_of(why: Reason) -> &'static str
         Reason::End => "end",
         Reason::Extra => "extra",
         Reason::Large => "large",
-        Reason::Unbuilt => "unbuilt",
     }
 }
 

@@ -10,7 +10,7 @@ const LINE: &[u8] = b"metric,l1\ndims,1\nlevels,0\ncell,4\nupdates,8\npages,4\n"
 
 const FOUR: &[u8] = b"insert,1,0\ninsert,2,10\ninsert,3,4\ninsert,4,7\n";
 
-const USAGE: &str =
+pub(super) const USAGE: &str =
     "usage: mindex replay SETTINGS SCHEDULE SCRIPT... | run SETTINGS SCRIPT... | make SEED | choose SETTINGS SCRIPT COUNT\n";
 
 /// Settings, script, count, status and text: choices, other records and repeats among the objects, counts that are none, and

@@ -132,8 +132,13 @@ impl<'a> Scans<'a> {
         count
     }
 
-    /// Answers a query for all objects within the radius.
-    fn range(&mut self, alloc: Global, radius: i64, query: [i64; 2]) -> Result<(), Fail> {
+    /// The reply to a query for all objects within the radius.
+    pub(super) fn range(
+        &self,
+        alloc: Global,
+        radius: i64,
+        query: [i64; 2],
+    ) -> Result<String, Fail> {
         let to_query = distances(alloc, self.setting.pivots, query)?;
         let mut cells = 0usize;
         let mut compared = self.setting.pivots.len();
@@ -152,10 +157,9 @@ impl<'a> Scans<'a> {
             updates,
             splits,
             ..
-        } = &*self;
+        } = self;
         let head = format!(in alloc; "range,{updates},{splits},{found},{cells},{compared}\n")?;
-        let lines = with_rows(alloc, head.as_str(), rows.as_slice())?;
-        self.reply(alloc, lines.as_str())
+        with_rows(alloc, head.as_str(), rows.as_slice())
     }
 
     /// How many leaves have a bound that isn't greater than the distance, or have a bound, where no distance is given.
@@ -177,8 +181,13 @@ impl<'a> Scans<'a> {
         Ok(cells)
     }
 
-    /// Answers a query for so many nearest objects.
-    fn nearest(&mut self, alloc: Global, count: usize, query: [i64; 2]) -> Result<(), Fail> {
+    /// The reply to a query for so many nearest objects.
+    pub(super) fn nearest(
+        &self,
+        alloc: Global,
+        count: usize,
+        query: [i64; 2],
+    ) -> Result<String, Fail> {
         let mut rows = self.ranked(alloc, query)?;
         rows.truncate(count);
         let found = rows.len();
@@ -191,10 +200,9 @@ impl<'a> Scans<'a> {
             updates,
             splits,
             ..
-        } = &*self;
+        } = self;
         let head = format!(in alloc; "nearest,{updates},{splits},{found},{cells}\n")?;
-        let lines = with_rows(alloc, head.as_str(), rows.as_slice())?;
-        self.reply(alloc, lines.as_str())
+        with_rows(alloc, head.as_str(), rows.as_slice())
     }
 }
 
@@ -215,13 +223,15 @@ fn workload(alloc: Global, setting: &Setting, seed: u64) -> Result<(String, Stri
             }
             3 | 4 => {
                 let radius = number % 14;
-                scans.range(alloc, radius as i64, [x, y])?;
+                let lines = scans.range(alloc, radius as i64, [x, y])?;
+                scans.reply(alloc, lines.as_str())?;
                 format!(in alloc; "range,{radius},{x},{y}\n")?
             }
             5..=8 => {
                 // One query in fifteen asks for more than there are.
                 let count = if number < 84 { number % 12 + 1 } else { 1000 };
-                scans.nearest(alloc, count as usize, [x, y])?;
+                let lines = scans.nearest(alloc, count as usize, [x, y])?;
+                scans.reply(alloc, lines.as_str())?;
                 format!(in alloc; "nearest,{count},{x},{y}\n")?
             }
             _ => {
@@ -236,7 +246,7 @@ fn workload(alloc: Global, setting: &Setting, seed: u64) -> Result<(String, Stri
 }
 
 /// Pivots whose distances from a point differ by even and by odd numbers.
-static SETTINGS: [Setting; 5] = [
+pub(super) static SETTINGS: [Setting; 5] = [
     Setting {
         pivots: &[],
         levels: 0,
@@ -271,7 +281,7 @@ static SETTINGS: [Setting; 5] = [
 
 /// The workloads of a few seeds give their transcripts.
 fn check_seeds(rt: &impl Abort, alloc: Global, setting: &Setting) -> Result<(), Fail> {
-    let settings = settings_text(alloc, setting)?;
+    let settings = settings_text(alloc, setting, 1000)?;
     for seed in 0..3u64 {
         let made = workload(alloc, setting, seed)?;
         check_workload(rt, alloc, settings.as_str(), seed, made)?;

@@ -1,4 +1,3 @@
-use Rattle.std.proofs.Common.{◌≡◌}
 use Rattle.mi_make.specs.Draws.{after_vector, vector}
 use Rattle.mi_make.proofs.DrawLemmas.{all_drawn, drawn_on, left_on, none_left}
 use Rattle.mi_make.proofs.workload.pivots.Goals as goal

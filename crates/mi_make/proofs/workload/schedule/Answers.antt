@@ -1,4 +1,3 @@
-use Rattle.std.proofs.Common.{◌≡◌}
 use Rattle.mi_make.specs.Workloads.{after_item, item}
 use Rattle.mi_make.proofs.DrawLemmas.{all_drawn, drawn_on}
 use Rattle.mi_make.proofs.workload.schedule.Goals as goal

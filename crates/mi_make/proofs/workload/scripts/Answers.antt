@@ -1,4 +1,3 @@
-use Rattle.std.proofs.Common.{◌≡◌}
 use Rattle.mi_make.proofs.WorkloadLemmas.{all_shared, no_object, objects_on, shared_on}
 use Rattle.mi_make.proofs.workload.scripts.Goals as goal
 

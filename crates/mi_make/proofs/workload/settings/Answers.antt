@@ -1,4 +1,3 @@
-use Rattle.std.proofs.Common.{◌≡◌, sym, subst, arith, List, ℤ}
 use Rattle.mi_make.proofs.WorkloadLemmas.{within_limits}
 use Rattle.mi_make.proofs.workload.settings.Goals as goal
 

@@ -1,10 +1,10 @@
-use Rattle.std.proofs.Common.{◌≡◌, ◌≤◌, ap, sym, ◌∙◌, subst, length, arith}
+use Rattle.std.proofs.Common.{◌≡◌, ap, sym, ◌∙◌, subst, length, arith}
 use Rattle.std.specs.Prelude.{IsTrue}
 use Rattle.std.specs.List.{AllByRecursion}
 use Rattle.std.proofs.lemmas.Grind.{common_steps}
 use Rattle.std.proofs.lemmas.List.{take_all}
 use Rattle.std.proofs.lemmas.List.Elements.{filter_map-append}
-use Rattle.mindex.specs.Choosing.{inserted_vector, objects_of}
+use Rattle.mindex.specs.Choosing.{objects_of}
 use Rattle.mindex.proofs.ChooseLemmas.{objects_few, objects_fit}
 use Rattle.mindex.proofs.choosing.objects_of.Goals as goal
 use Rattle.mindex.proofs.choosing.objects_of.Goals.{in-Insert+in_ok-push, in_default}

@@ -1,11 +1,11 @@
-use Rattle.std.proofs.Common.{◌≡◌, ap, sym, refl, subst, inl, inr}
+use Rattle.std.proofs.Common.{ap, sym, refl, subst, inl, inr}
 use Rattle.mi_base.specs.Configuration.{metric_space}
 use Rattle.mi_base.specs.Scripts.{IsScriptOver}
 use Rattle.mi_choose.specs.Farthest.{IsFarthestFirst}
 use Rattle.mi_table.specs.Any.{any_space}
 use Rattle.mindex.specs.declared.statuses.Status.TheVariants as status
 use Rattle.mindex.specs.Calls.{memory_line}
-use Rattle.mindex.specs.Choosing.{choice_text, objects_of}
+use Rattle.mindex.specs.Choosing.{choice_text}
 use Rattle.mindex.proofs.CallLemmas.{ends_from}
 use Rattle.mindex.proofs.choosing.propose.Goals as goal
 

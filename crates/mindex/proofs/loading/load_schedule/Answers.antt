@@ -10,11 +10,11 @@ returns-in-Ok-clause-loads g c =
     let reads = subst (λ before. Reads told before c.read.new.into.items) c.new-bytes.ensures.items c.in-Ok.ensures.ok in
     let bytes = subst (λ after. Reads told [] after) (sym c.as_slice.ensures.value) reads in
     rw c.fault_of.ensures
-    (loads_fault (g.F.Files.state c.args.files.now) (g.F.Files.state c.read.new.self) c.args.name.now 1 (schedule_in 1) c.as_slice.result.now c.in-Err-read_schedule.fault
+    (loads_fault (g.F.Files.state c.args.files.now) (g.F.Files.state c.read.new.self) c.args.name.now 1 (schedule_in c.args.sessions) c.as_slice.result.now c.in-Err-read_schedule.fault
     bytes c.in-Err-read_schedule.ensures.err c.in-Ok.ensures.uncounted)
 
 pub returns-clause-loads : goal.returns-clause-loads
 returns-clause-loads g c =
     rw c.stop_of.ensures
-    (loads_refused (g.F.Files.state c.args.files.now) (g.F.Files.state c.read.new.self) c.args.name.now 1 (schedule_in 1) c.in-Err.refusal
+    (loads_refused (g.F.Files.state c.args.files.now) (g.F.Files.state c.read.new.self) c.args.name.now 1 (schedule_in c.args.sessions) c.in-Err.refusal
     c.in-Err.ensures.err c.read.ensures.count)

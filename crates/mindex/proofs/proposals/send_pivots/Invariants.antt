@@ -1,4 +1,4 @@
-use Rattle.std.proofs.Common.{◌≡◌, [], Ok, take, map, get_or}
+use Rattle.std.proofs.Common.{◌≡◌, [], Ok, take, get_or}
 use Rattle.std.specs.List.{flat_map}
 use Rattle.mi_outside.specs.Outside.{Sends}
 use Rattle.mindex.specs.Choosing.{pivot_line}

@@ -1,4 +1,4 @@
-use Rattle.std.proofs.Common.{◌≡◌, ◌∙◌, ℤ, List, subst, arith}
+use Rattle.std.proofs.Common.{◌∙◌, ℤ, List, subst, arith}
 use Rattle.mi_base.specs.Vectors.{IsRefused}
 use Rattle.mi_make.proofs.DrawLemmas.{is_vector}
 use Rattle.mi_make.proofs.draws.Draws.vector.Goals as goal

@@ -1,4 +1,0 @@
-pub mod Answering
-pub mod Opening
-pub mod Outcomes
-pub mod Plain

@@ -1,0 +1,11 @@
+use Rattle.std.proofs.Common.{◌≡◌, length, map, take}
+use Rattle.std.specs.String.{string_bytes}
+use Rattle.mindex.proofs.ScriptsLemmas.{Front}
+use Rattle.mindex.proofs.loading.load_scripts.Given as goal
+
+-- the scripts of the names so far were read
+abbrev pub invariant-loop-name : goal.invariant-loop-name
+invariant-loop-name g l = record {
+  so_far : Front l.settings (g.F.Files.state l.fn.files) (g.F.Files.state l.files) (map string_bytes (take l.name-index l.names)) l.scripts;
+  count : length l.scripts ≡ l.name-index;
+}

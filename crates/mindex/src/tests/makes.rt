@@ -1,0 +1,71 @@
+//! The words of the command that makes a workload.
+
+use super::choices::USAGE;
+use super::words_of;
+use crate::making::{make_call, seed_in_words};
+use crate::mindex;
+use mi_outside::{MemoryFiles, MemorySink, OpenGate};
+use std::test::Fail;
+
+/// Numbers as they may be written.
+static SEEDS: [(&str, u64); 6] = [
+    ("0", 0),
+    ("-0", 0),
+    ("+1", 1),
+    ("007", 7),
+    ("00000000000000000012", 12),
+    ("18446744073709551615", u64::MAX),
+];
+
+/// Words that are no number of 64 bits.
+static OTHERS: [&str; 7] = [
+    "",
+    "x",
+    "-1",
+    "+-1",
+    "1.0",
+    "18446744073709551616",
+    "000000000000000000012",
+];
+
+#[test]
+fn a_workload_has_a_number_of_64_bits(rt: HostRuntime) -> Result<(), Fail> {
+    let alloc = rt.alloc();
+    for (word, seed) in &SEEDS {
+        let words = words_of(alloc, &["make", *word])?;
+        assert_eq!(rt; seed_in_words(words.as_slice()), Some(*seed));
+    }
+    for word in &OTHERS {
+        let words = words_of(alloc, &["make", *word])?;
+        let mut out = MemorySink::new(alloc, 1000, &[], 1000)?;
+        assert_eq!(rt; make_call(alloc, words.as_slice(), &mut out), 1);
+        assert_eq!(rt; out.bytes(), USAGE.as_bytes());
+    }
+    Ok(())
+}
+
+#[test]
+fn a_workload_has_no_other_word(rt: HostRuntime) -> Result<(), Fail> {
+    let alloc = rt.alloc();
+    let forms: [&[&str]; 3] = [&["make"], &["make", "1", "2"], &["Make", "1"]];
+    for form in forms {
+        let words = words_of(alloc, form)?;
+        let mut files = MemoryFiles::new(alloc, &[])?;
+        let mut out = MemorySink::new(alloc, 1000, &[], 1000)?;
+        let gate = OpenGate::new();
+        let status = mindex(&rt, alloc, words.as_slice(), &mut files, &mut out, &gate);
+        assert_eq!(rt; status, 1);
+        assert_eq!(rt; out.bytes(), USAGE.as_bytes());
+    }
+    Ok(())
+}
+
+#[test]
+fn a_usage_line_that_is_cut_off_is_a_failed_write(rt: HostRuntime) -> Result<(), Fail> {
+    let alloc = rt.alloc();
+    let words = words_of(alloc, &["make", "one"])?;
+    let mut out = MemorySink::new(alloc, 8, &[3], 1000)?;
+    assert_eq!(rt; make_call(alloc, words.as_slice(), &mut out), 5);
+    assert_eq!(rt; out.bytes(), "usage: mindex re".as_bytes());
+    Ok(())
+}
