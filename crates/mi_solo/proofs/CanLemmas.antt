@@ -24,7 +24,7 @@ use Rattle.mi_board.specs.Boards as board
 use Rattle.mi_board.specs.Boards.{HasRoom, MayCommit, crowded_at}
 use Rattle.mi_entries.specs.Actors.{Actor}
 use Rattle.mi_entries.specs.Entries.{HasPlace, IsEntry, grid, is_placed}
-use Rattle.mi_entries.specs.Records.{Rows, ShardRecord, home, shard_at}
+use Rattle.mi_entries.specs.Records.{Rows, Shard, ShardRecord, home, shard_at}
 use Rattle.mi_entries.proofs.EntryLemmas.{timely}
 use Rattle.mi_entries.proofs.KeyedLemmas.{is_keyed}
 use Rattle.mi_entries.proofs.NewLemmas.{aged}
@@ -55,6 +55,10 @@ none_of (Some x) h = absurd (false≢true (sym h))
 not_shown : (o : Option ShardRecord) → record_shown o ≡ None → o ≡ None
 not_shown None h = refl
 not_shown (Some x) h = cc
+
+-- an identifier whose record isn't told has none in the shard that is held
+pub unrecorded : (shards : List Shard) (o : Option ℕ) (k id : ℕ) → o ≡ Some k → records_in shards o id ≡ None → find (λ x. x.id == id) (shard_at shards k).rows.records ≡ None
+unrecorded shards o k id held none = not_shown _ (sym (ap (λ p. records_in shards p id) held) ∙ none)
 
 shown_from : (o : Option ShardRecord) (x : Record) → record_shown o ≡ Some x → (y : ShardRecord) × (o ≡ Some y) × (x.birth ≡ y.birth) × (x.dists.items ≡ y.dists)
 shown_from None x h = absurd (none-some x h)
@@ -162,7 +166,7 @@ module _ (s : State) (k : Kept s) (a : ℕ) (r : Actor) (there : slice_get s.act
           death = death;
           key = key ∙ ap (λ o. key_under c (prefix_or o) (key_distance e.dists.items) id e.birth) claim ∙ ap (λ ds. key_under c leaf (key_distance ds) id e.birth) may.measured;
         };
-        absent = not_shown _ (sym (ap (λ o. records_in s.shards o id) may.shard) ∙ may.absent);
+        absent = unrecorded s.shards r.shard (home id) id may.shard may.absent;
         calm = calm;
         space = space;
       }

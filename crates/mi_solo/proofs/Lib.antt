@@ -44,4 +44,3 @@ pub mod GatherSections
 pub mod PublishSections
 pub mod CopySections
 pub mod CopyAnswers
-pub mod FindingLemmas

@@ -13,7 +13,7 @@ use mi_key::{Key, cluster_number};
 use mi_perm::{key_distance, permutation};
 
 /// The key of an object under a leaf.
-fn key_of_object(settings: &Settings, leaf: &Prefix, dists: &Dists, id: Id, birth: u32) -> Key
+pub fn key_of_object(settings: &Settings, leaf: &Prefix, dists: &Dists, id: Id, birth: u32) -> Key
     requires depth { length leaf.now ≤ settings.now.levels }
     requires pivots { IsTrue (all_below (length settings.now.pivots) leaf.now) }
     requires distance { key_distance dists.now.items < 2 ^ 27 }

@@ -27,7 +27,7 @@ impl Core {
         let shard = &mut self.shards[number as usize];
         shard.give(Some(actor));
         ShardClaim::Taken {
-            kept: shard.seek(id),
+            kept: shard.record(id),
         }
     }
 

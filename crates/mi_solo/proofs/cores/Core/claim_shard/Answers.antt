@@ -1,7 +1,5 @@
-use Rattle.std.proofs.Common.{◌≡◌, ◌==◌, ◌<◌, ◌%◌, ◌∙◌, ap, arith, length, None, sym}
-use Rattle.std.specs.List.{find}
+use Rattle.std.proofs.Common.{◌≡◌, ◌<◌, ◌%◌, ◌∙◌, ap, arith, length, None, sym}
 use Rattle.mi_entries.specs.Records.{Shard, home}
-use Rattle.mi_solo.specs.Viewing.{record_shown}
 use Rattle.mi_solo.proofs.CoreLemmas.{none_of, same_at}
 use Rattle.mi_solo.proofs.ShardSections.{shard_claimed, shard_missed}
 use Rattle.mi_solo.proofs.cores.Core.claim_shard.Goals as goal
@@ -23,5 +21,4 @@ returns c =
     ap (λ (x : Shard). x.holder) (same_at s.shards.items k c.index_mut-shard.result.now c.index.result.now low c.index_mut-shard.ensures.value c.index.ensures)
     ∙ sym c.holder-by.ensures ∙ none_of c.holder-by.result (sym c.is_some.ensures ∙ c.if-is_some.false) in
     shard_claimed s c.args.actor c.requires.going.known c.requires.kept c.index_mut-2.result.now c.index_mut-2.ensures.value c.take_shard.new.self k low c.args.id (ap home c.get.ensures.same)
-    c.requires.free c.index_mut-shard.result.now c.index_mut-shard.ensures.value none c.seek.new.self (c.seek.ensures.same ∙ c.give.ensures) c.take_shard.ensures c.seek.result
-    (c.seek.ensures.result ∙ ap (λ (x : Shard). record_shown (find (λ y. y.id == c.args.id) x.rows.records)) (sym c.seek.ensures.same))
+    c.requires.free c.index_mut-shard.result.now c.index_mut-shard.ensures.value none c.give.new.self c.give.ensures c.take_shard.ensures c.record.result c.record.ensures

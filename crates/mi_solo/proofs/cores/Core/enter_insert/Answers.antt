@@ -1,4 +1,5 @@
-use Rattle.std.proofs.Common.{◌≡◌, ◌∙◌, ◌<◌, ◌+◌, ◌%◌, ◌^◌, None, Some, ap, arith, inl, inr, length, refl, set, subst, sym, get_or}
+use Rattle.std.proofs.Common.{◌≡◌, ◌∙◌, ◌<◌, ◌+◌, ◌%◌, ◌==◌, ◌^◌, None, Some, ap, arith, inl, inr, length, refl, set, subst, sym, get_or}
+use Rattle.std.specs.List.{find}
 use Rattle.mi_base.specs.Configuration.{Configuration}
 use Rattle.mi_base.specs.History.{updates_of}
 use Rattle.mi_base.specs.Permutations.{distance_at_first, permutation_of}
@@ -16,7 +17,7 @@ use Rattle.mi_page.specs.Entries.{entry_cmp}
 use Rattle.mi_page.specs.Nodes.{Node, item_count}
 use Rattle.mi_tree.specs.declared.answers.Look.{Look}
 use Rattle.mi_solo.specs.States.{Does, actor_in, actor_of, actors_of, node_in, state_of}
-use Rattle.mi_solo.proofs.CanLemmas.{insert_board, insert_commits}
+use Rattle.mi_solo.proofs.CanLemmas.{insert_board, insert_commits, unrecorded}
 use Rattle.mi_solo.proofs.CoreLemmas.{comes_to, read_is, row_alone, row_is, suits, there}
 use Rattle.mi_solo.proofs.InsertSection.{commits_well, crowd_is, is_entered, none_there, trims_leaf}
 use Rattle.mi_solo.proofs.LaterLemmas.{linked_at}
@@ -127,8 +128,18 @@ unreachable-requires-in_default-commit_insert c =
     commits_well s.board a c.args.op (Insert c.args.id c.args.vector.now) (crowded_at s.board c.permutation-perm.result) c.in_default-commit_insert.field-0 c.commit_insert.new.self c.in_default-commit_insert.ensures room
     (ap (crowded_at s.board) (c.permutation-perm.ensures.value ∙ ap permutation_of c.requires.ready.measured) ∙ calm)
 
-pub insert-requires : goal.insert-requires
-insert-requires c =
+pub insert-requires-clause-absent : goal.insert-requires-clause-absent
+insert-requires-clause-absent c =
+    let s = c.args.self.now in
+    let a = c.args.actor in
+    let holds = (suits s a c.requires.going.known c.requires.kept).holds in
+    let n : c.get.result % 16 ≡ home c.args.id = ap home c.get.ensures.same in
+    let low : home c.args.id < length s.shards.items = let many = c.requires.kept.sound.sixteen in omega (arith, (holds.shard (home c.args.id) c.requires.ready.shard).0) in
+    let it = read_is s.shards.items (home c.args.id) no_shard c.index_mut-2.result.now low (subst (λ m. c.index_mut-2.result.now ≡ get_or s.shards.items m c.index_mut-2.result.now) n c.index_mut-2.ensures.value) in
+    ap (λ (x : Shard). find (λ y. y.id == c.args.id) x.rows.records) it ∙ unrecorded s.shards.items (actor_in (state_of s) a).shard (home c.args.id) c.args.id c.requires.ready.shard c.requires.ready.absent
+
+pub insert-requires-clause-room : goal.insert-requires-clause-room
+insert-requires-clause-room c =
     let s = c.args.self.now in
     let a = c.args.actor in
     let holds = (suits s a c.requires.going.known c.requires.kept).holds in
