@@ -149,7 +149,7 @@ module _ (v w : View) (o : Others v w) where
     early_is = early_job job.operation early s.early_is;
   }
 
-  spent_same : (x : Operation) (b : Bool) → OperationIsReady x b v → (most_spent x w ≡ most_spent x v) × (least_spent x w ≡ least_spent x v)
+  pub spent_same : (x : Operation) (b : Bool) → OperationIsReady x b v → (most_spent x w ≡ most_spent x v) × (least_spent x w ≡ least_spent x v)
   spent_same (Insert job) b h = (refl, refl)
   spent_same (Delete op) b h = (refl, refl)
   spent_same (Range range number) b h = (refl, refl)

@@ -14,10 +14,12 @@ pub mod SeatViews
 pub mod SeatQueries
 pub mod SeatLemmas
 pub mod SeatBlocks
+pub mod SpendingLemmas
 pub mod TableBlocks
 pub mod TableLemmas
 pub mod TableOpening
 pub mod TableRounds
+pub mod SpendingTables
 pub mod OutcomeLegal
 pub mod OutcomeLemmas
 pub mod OutcomeSeen

@@ -1,9 +1,9 @@
 -- What scripts after a schedule leave is played.
 use Rattle.std.proofs.Common.{◌≡◌, ◌≢◌, ℕ, zero, suc, ◌+◌, ◌-◌, ◌<◌, ◌≤◌, List, [], ◌∷◌, ◌++◌, map, length, Bool, true, false, ◌||◌, Option, Some, None, refl, sym, ap, ◌∙◌, subst, arith, append_assoc, eq-eqb}
-use Rattle.std.specs.Prelude.{Result, Ok, Err, slice_get, ◌==◌, ◌&&◌, is_none, is_some}
+use Rattle.std.specs.Prelude.{Result, Ok, Err, slice_get, ◌==◌, ◌&&◌, is_some}
 use Rattle.std.specs.List.{AllByRecursion, list_any}
 use Rattle.std.proofs.Math.Bool.{and-false, or-false}
-use Rattle.std.proofs.lemmas.Bool.{eqb-true, false≢true, or_parts}
+use Rattle.std.proofs.lemmas.Bool.{false≢true, or_parts}
 use Rattle.std.proofs.lemmas.List.{length-map}
 use Rattle.std.proofs.lemmas.List.Folds.{list_any-append}
 use Rattle.std.proofs.lemmas.Option.{none-some, same_Some, slice_get_within}
@@ -27,6 +27,7 @@ use Rattle.mi_job.specs.Caring.{TaskIsReady}
 use Rattle.mi_job.specs.Claims.{ClaimsNone}
 use Rattle.mi_legal.specs.Legal.{EachRight, Legal, NeverFalls, accepted_in}
 use Rattle.mi_legal.specs.Want.{has_memory}
+use Rattle.mi_legal.specs.Work.{AllTakeSteps}
 use Rattle.mi_solo.specs.States.{actor_in, view_in}
 use Rattle.mi_solo.proofs.HandLemmas.{bare_shown, free_shown, whole_shown}
 use Rattle.mi_tree.specs.declared.outcomes.Outcome.{Outcome}
@@ -40,6 +41,7 @@ use Rattle.mi_replay.specs.Moving.{MakeCalls}
 use Rattle.mi_replay.specs.Outcomes.{IsLeft, Played, lacks_page}
 use Rattle.mi_replay.specs.Seats.{SeatAt, UnderWay, is_over}
 use Rattle.mi_replay.specs.Settling.{HoldsNothing, IsAtRest, IsSettled, LeavesSettled, Settles, is_refused}
+use Rattle.mi_replay.specs.Spending.{IsSpent, replies_of}
 use Rattle.mi_replay.specs.Splitters.{SplitterAt, SplitterWaits, gave_up, is_given_up}
 use Rattle.mi_replay.specs.Tables.{AllOver, Finished, TableWaits, beginning}
 use Rattle.mi_replay.specs.Turns.{Chained, ComesTo, Turn}
@@ -50,8 +52,10 @@ use Rattle.mi_replay.proofs.RunLemmas.{blocks_chained, chained_on}
 use Rattle.mi_replay.proofs.SeatLemmas.{seat_stays}
 use Rattle.mi_replay.proofs.SeatTurns.{busy_now, in_turn_on}
 use Rattle.mi_replay.proofs.SeatViews.{SameSeen, comes_same}
+use Rattle.mi_replay.proofs.SpendingTables.{all_spent}
 use Rattle.mi_replay.proofs.TableBlocks.{by_number}
 use Rattle.mi_replay.proofs.TableLemmas.{apart_by, as_many, claims_stay, is_there, not_by}
+use Rattle.mi_replay.proofs.TableOpening.{over_parts}
 use Rattle.mi_replay.proofs.TableRounds.{actor_of, over_free}
 
 -- the splitter comes to its turn, and has nothing under way
@@ -85,10 +89,6 @@ module _ (n : ℕ) (s m : State) (comes : ComesTo s n m) where
       gives_none : (pages : Bool) → is_given_up pages None ≡ false
       gives_none true = refl
       gives_none false = refl
-
-over_parts : (o : Option Job) (n m : ℕ) → (is_none o && (n == m)) ≡ true → (o ≡ None) × (n ≡ m)
-over_parts None n m h = (refl, eqb-true n m h)
-over_parts (Some j) n m h = absurd (false≢true h)
 
 -- a session that is over
 record SessionOver (c : Configuration) (turns : List Turn) (s : State) (k : ℕ) (os : List Op) (ys : List Reply) : Type 0 where
@@ -338,6 +338,13 @@ module _ (c : Configuration) (scripts : List (List Op)) (schedule : List Schedul
     count = count;
     sessions = λ j os ys at_os at_ys. (each j os ys at_os at_ys).order;
   }
+
+  -- the steps that the replies tell
+  pub takes_steps : (first n : ℕ) → IsSpent scripts first n s seats → AllTakeSteps c o.log scripts o.replies first n
+  takes_steps first n spent =
+      subst (λ ys. AllTakeSteps c o.log scripts ys first n) (sym h.replies_are)
+      (subst (λ log. AllTakeSteps c log scripts (replies_of seats) first n) (sym h.log_is)
+      (all_spent c scripts s seats first n h.last.board.log f.ran.at.settings later.grows f.over spent))
 
   pub played : Played c scripts schedule o
   unfolding in_order

@@ -1,9 +1,10 @@
 -- Turn after turn of one session makes a block.
-use Rattle.std.proofs.Common.{◌≡◌, ◌≢◌, ℕ, zero, suc, ◌+◌, ◌-◌, ◌*◌, ◌<◌, ◌≤◌, List, [], ◌∷◌, ◌++◌, length, Bool, true, false, cond, not, ◌&&◌, ◌||◌, Option, Some, None, refl, sym, ap, ◌∙◌, subst, arith, rules, inl, inr, append-nil, append_assoc, length-append}
-use Rattle.std.specs.Prelude.{◌==◌, is_none, vec_capacity}
+use Rattle.std.proofs.Common.{◌≡◌, ℕ, zero, suc, ◌+◌, ◌-◌, ◌*◌, ◌<◌, ◌≤◌, List, [], ◌∷◌, ◌++◌, length, Bool, true, false, cond, not, ◌&&◌, ◌||◌, Option, Some, None, refl, sym, ap, ◌∙◌, subst, arith, rules, inl, inr, append-nil, append_assoc, length-append}
+use Rattle.std.specs.Prelude.{◌==◌, is_none, slice_get, vec_capacity}
 use Rattle.std.specs.List.{fold}
 use Rattle.std.proofs.lemmas.Bool.{false≢true}
 use Rattle.std.proofs.lemmas.Bool.Decides.{nat_tests}
+use Rattle.std.proofs.lemmas.Option.{slice_get_within}
 use Rattle.mi_base.specs.declared.records.Op.{Op}
 use Rattle.mi_base.specs.Configuration.{Configuration, metric_space, space_of}
 use Rattle.mi_base.specs.Scripts.{IsScriptOver}
@@ -27,21 +28,22 @@ use Rattle.mi_replay.specs.declared.seats.Taken.{Taken}
 use Rattle.mi_replay.specs.declared.seats.Taken.TheVariants.{More, Held, Ended}
 use Rattle.mi_replay.specs.InOrder.{AllBy, BeginsAtOnce}
 use Rattle.mi_replay.specs.Moving.{MakeCalls, MakesCall, Moves, event_of}
-use Rattle.mi_replay.specs.Seats.{Going, IsNext, Leaves, Made, SeatAt, SeatReady, SeatWaits, StandsHeld, StopsBy, TurnMade, TurnsMade, WaitsAt, ended_by, is_more, is_over}
+use Rattle.mi_replay.specs.Seats.{AsksAt, Going, IsNext, Leaves, Made, SeatAt, SeatReady, SeatWaits, StandsHeld, StopsBy, TurnMade, TurnsMade, WaitsAt, ended_by, is_more, is_over}
 use Rattle.mi_replay.specs.Turns.{Chained, Goes, InTurn, Makes, Turn, busy, busy_after, ended}
 use Rattle.mi_replay.proofs.HeldLemmas.{held_there}
 use Rattle.mi_replay.proofs.RunLemmas.{chained_on}
 use Rattle.mi_replay.proofs.SeatLemmas.{seat_turned, taken_ends, turn_of, under_stays}
+use Rattle.mi_replay.proofs.SeatQueries.{next_asked}
 use Rattle.mi_replay.proofs.SeatTurns.{busy-append, ended-append, ended_now, in_turn_on, operations_on}
 use Rattle.mi_replay.proofs.SeatViews.{SameSeen, comes_same}
 
-some_left_at : (o : Option Job) (n m : ℕ) → (is_none o && (n == m)) ≡ false → n ≤ m → (o ≢ None → n < m) → n < m
-some_left_at None n m h few more = grind (arith, nat_tests)
-some_left_at (Some j) n m h few more = more (λ e. cc)
+some_left_at : (script : List Op) (o : Option Job) (n : ℕ) → (is_none o && (n == length script)) ≡ false → n ≤ length script → AsksAt script n o → n < length script
+some_left_at script None n h few asks = grind (arith, nat_tests)
+some_left_at script (Some j) n h few asks = slice_get_within script n (asked j) asks
 
 -- the script isn't done where a section may be made
 pub some_left : (s : State) (k : ℕ) (script : List Op) (a : Seat) → SeatReady s k script a → length a.replies.items < length script
-some_left s k script a h = some_left_at a.job (length a.replies.items) (length script) h.left h.waits.few h.waits.left
+some_left s k script a h = some_left_at script a.job (length a.replies.items) h.left h.waits.few h.waits.asks
 
 -- and there is none to be made where the actor comes to its turn and sees no more
 pub ready_seen : (s : State) (k : ℕ) (script : List Op) (a : Seat) (m : State) → SameSeen s k m → MayTurn m k → SeatReady s k script a → SeatReady m k script a
@@ -51,7 +53,7 @@ ready_seen s k script a m same may h = record {
     fits = subst (λ b. IsScriptOver (metric_space b.settings) script) (sym same.board) h.waits.fits;
     at = subst (WaitsAt a.job) (sym same.view) h.waits.at;
     few = h.waits.few;
-    left = h.waits.left;
+    asks = h.waits.asks;
     room = h.waits.room;
   };
   left = h.left;
@@ -76,36 +78,40 @@ module _ (k : ℕ) (script : List Op) (s : State) (a : Seat) (r : Taken) (b : Se
   turn_makes : Makes the_turn.event s k t
   turn_makes = record { between = h.between; comes = h.comes; goes = goes_by h.between k t h.section.moves }
 
-  waits_by : (answer : JobTurn) → length a.replies.items < length script → MayTurn t k → IsScriptOver (metric_space t.board.settings) script → length script ≤ vec_capacity b.replies
-      → Turned h.section.old (view_in h.between k) answer h.section.new (view_in t k) → Leaves a answer r h.section.new b → SeatWaits t k script b
-  waits_by job.More less may fits room x l = record {
+  asks_on : b.replies.items ≡ a.replies.items → asked h.section.new ≡ asked h.section.old → slice_get script (length a.replies.items) ≡ Some (asked h.section.old)
+      → slice_get script (length b.replies.items) ≡ Some (asked h.section.new)
+  asks_on same is op = ap (λ ys. slice_get script (length ys)) same ∙ op ∙ ap Some (sym is)
+
+  waits_by : (answer : JobTurn) → slice_get script (length a.replies.items) ≡ Some (asked h.section.old) → MayTurn t k → IsScriptOver (metric_space t.board.settings) script → length script ≤ vec_capacity b.replies
+      → Turned h.section.old (view_in h.between k) answer h.section.new (view_in t k) → Leaves a answer r (Some h.section.new) b → SeatWaits t k script b
+  waits_by job.More op may fits room x l = record {
     may = may;
     fits = fits;
     at = rw l.1 x.outcome.0;
-    few = omega (arith, ap length l.2, less);
-    left = λ some. omega (arith, ap length l.2, less);
+    few = omega (arith, ap length l.2, slice_get_within script (length a.replies.items) _ op);
+    asks = rw l.1 (asks_on l.2 x.asked_is op);
     room = room;
   }
-  waits_by job.Held less may fits room x l = record {
+  waits_by job.Held op may fits room x l = record {
     may = may;
     fits = fits;
     at = rw l.1 x.outcome.0;
-    few = omega (arith, ap length l.2, less);
-    left = λ some. omega (arith, ap length l.2, less);
+    few = omega (arith, ap length l.2, slice_get_within script (length a.replies.items) _ op);
+    asks = rw l.1 (asks_on l.2 x.asked_is op);
     room = room;
   }
-  waits_by (job.Done y) less may fits room x l = record {
+  waits_by (job.Done y) op may fits room x l = record {
     may = may;
     fits = fits;
     at = rw l.1 x.outcome.claims;
-    few = omega (arith, ap length l.2, length-append a.replies.items (y ∷ []), less);
-    left = λ some. absurd (some l.1);
+    few = omega (arith, ap length l.2, length-append a.replies.items (y ∷ []), slice_get_within script (length a.replies.items) _ op);
+    asks = rw l.1 tt;
     room = room;
   }
 
   pub waits_after : SeatReady s k script a → MayTurn t k → SeatWaits t k script b
   waits_after ready may =
-      waits_by h.section.answer (some_left s k script a ready) may
+      waits_by h.section.answer (next_asked script a a.job h.section.old _ (view_in s k) ready.waits.asks h.section.next) may
       (subst (λ c. IsScriptOver (metric_space c) script) (sym settings_stay) ready.waits.fits)
       (omega (arith, ready.waits.room, h.section.room)) h.section.turned h.section.leaves
 
@@ -163,13 +169,13 @@ module _ (k : ℕ) (script : List Op) (s : State) (a : Seat) (r : Taken) (b : Se
       record { job = j; is = is; held = held_there t k (actor_in t k) (asked j) stands; stands = stands }
 
   stage_by : (made : List Turn) (answer : JobTurn) (q : Taken) → ended k made ≡ cond (taken_ends q) 1 0
-      → Turned h.section.old (view_in h.between k) answer h.section.new (view_in t k) → Leaves a answer q h.section.new b → Stage q k t b made
+      → Turned h.section.old (view_in h.between k) answer h.section.new (view_in t k) → Leaves a answer q (Some h.section.new) b → Stage q k t b made
   stage_by made job.More q is x l = subst (λ z. Stage z k t b made) (sym l.0) (subst (λ z. ended k made ≡ cond (taken_ends z) 1 0) l.0 is, h.section.new, l.1)
   stage_by made job.Held q is x l =
       subst (λ z. Stage z k t b made) (sym l.0) (subst (λ z. ended k made ≡ cond (taken_ends z) 1 0) l.0 is, held_at h.section.new x.outcome.2 x.asked_is l.1)
   stage_by made (job.Done y) q is x l = subst (λ z. Stage z k t b made) (sym l.0) (subst (λ z. ended k made ≡ cond (taken_ends z) 1 0) l.0 is, l.1)
 
-  replies_by : (answer : JobTurn) → Leaves a answer r h.section.new b → length b.replies.items ≡ length a.replies.items + ended_by r
+  replies_by : (answer : JobTurn) → Leaves a answer r (Some h.section.new) b → length b.replies.items ≡ length a.replies.items + ended_by r
   replies_by job.More l = omega (arith, ap length l.2, ap ended_by l.0)
   replies_by job.Held l = omega (arith, ap length l.2, ap ended_by l.0)
   replies_by (job.Done y) l = omega (arith, ap length l.2, ap ended_by l.0, length-append a.replies.items (y ∷ []))
@@ -237,7 +243,7 @@ module _ (k : ℕ) (script : List Op) (s : State) (a : Seat) (r : Taken) (b : Se
       ap (λ o. seat_left_at o (view_in s k)) is ∙ ap (λ v. budget v * job_most + left j v + 1) (sym (comes_same s k h.between h.comes).view)
       ∙ ap (λ (x : Job). budget (view_in h.between k) * job_most + left x (view_in h.between k) + 1) (sym (same_job a.job is h.section.next))
 
-  falls_by : (answer : JobTurn) → Turned h.section.old (view_in h.between k) answer h.section.new (view_in t k) → Leaves a answer r h.section.new b
+  falls_by : (answer : JobTurn) → Turned h.section.old (view_in h.between k) answer h.section.new (view_in t k) → Leaves a answer r (Some h.section.new) b
       → seat_left r b (view_in t k) < budget (view_in h.between k) * job_most + left h.section.old (view_in h.between k) + 1
   falls_by job.More x l =
       let v : View = view_in h.between k in

@@ -340,7 +340,7 @@ module _ (c : Configuration) (turns : List Turn) (k : ℕ) (script : List Op) (a
     on : (old : Job) → IsNext (space_of m.board.settings) script a a.job old → Ongoing (accepted_in k 1 script a.replies.items) (length a.replies.items) h.to old
     on old next = ongoing (accepted_in k 1 script a.replies.items) h.to a.job old refl h.within h.under next
 
-    turned_by : (old new : Job) (answer : JobTurn) → t.board.settings ≡ c → IsNext (space_of m.board.settings) script a a.job old → Turned old v answer new w → Moves m k t → Leaves a answer r new b
+    turned_by : (old new : Job) (answer : JobTurn) → t.board.settings ≡ c → IsNext (space_of m.board.settings) script a a.job old → Turned old v answer new w → Moves m k t → Leaves a answer r (Some new) b
         → SeatAt c all t k script b
     turned_by old new job.More settings next x moves l =
         goes_on new (ap taken_ends l.0) l.1 l.2 (under_more (accepted_in k 1 script a.replies.items) (length a.replies.items) h.to old new (on old next) moves x)

@@ -31,7 +31,7 @@ use Rattle.mi_range.specs.declared.range.RangeState.TheVariants as ranged
 use Rattle.mi_range.specs.Querying as ranging
 use Rattle.mi_world.specs.View.{View}
 use Rattle.mi_replay.specs.declared.seats.Seat.{Seat}
-use Rattle.mi_replay.specs.Seats.{IsNext, WaitsAt, refuses_at, is_refusing}
+use Rattle.mi_replay.specs.Seats.{AsksAt, IsNext, WaitsAt, refuses_at, is_refusing}
 
 -- what is so of an operation that has just begun
 pub record Begins (x : Operation) (o : Op) (number : ℕ) (v : View) : Type 0 where
@@ -129,6 +129,12 @@ next_ready script a None old space v same fits free next = record {
       (each_at (IsOpOver (metric_space v.settings)) script (length a.replies.items) next.0 fits.each next.1) free;
 }
 next_ready script a (Some j) old space v same fits ready next = subst (λ (x : Job). Ready x v) (sym next) ready
+
+-- and it is the script's
+pub next_asked : (script : List Op) (a : Seat) (o : Option Job) (old : Job) (space : Space) (v : View) → AsksAt script (length a.replies.items) o → IsNext space script a o old
+    → slice_get script (length a.replies.items) ≡ Some (asked old)
+next_asked script a None old space v asks next = next.1 ∙ ap Some (sym (begins old.operation next.0 (length a.replies.items + 1) space v next.2.operation).asked_is)
+next_asked script a (Some j) old space v asks next = asks ∙ ap (λ (x : Job). Some (asked x)) (sym next)
 
 -- while others act the position of a query stays
 range_stays : (s : RangeState) (i : RangeOp) (v w : View) → ranging.StateIsReady s i v → range_begun s ≡ true → ranging.since_at s w ≡ ranging.since_at s v

@@ -1,35 +1,36 @@
 -- The splitter alone: operations until there is nothing to do, and trims from the first leaf page to the last.
 use Rattle.std.proofs.Common.{◌≡◌, ◌≢◌, ℕ, ◌+◌, ◌*◌, ◌-◌, ◌^◌, ◌<◌, ◌≤◌, List, [], ◌∷◌, ◌++◌, length, Bool, true, false, IsTrue, Option, Some, None, is_some, refl, sym, ap, ◌∙◌, subst, arith, append-nil, append_assoc, inl, inr}
-use Rattle.std.specs.Prelude.{slice_get, slice_set, ◌==◌, ◌&&◌, ◌||◌, Ok, Err, Result, not}
-use Rattle.std.specs.List.{filter, list_any}
+use Rattle.std.specs.Prelude.{slice_get, slice_set, ◌==◌, ◌&&◌, ◌||◌, Ok, Err, not}
+use Rattle.std.specs.List.{list_any}
 use Rattle.std.proofs.lemmas.Bool.{cases_eq, false≢true}
 use Rattle.std.proofs.lemmas.List.{length-drop}
 use Rattle.std.proofs.lemmas.List.Folds.{list_any-append}
 use Rattle.std.proofs.lemmas.Option.{get_or_from_slice_get, none-some, slice_get-get_or, slice_get_within}
+use Rattle.std.proofs.Math.Bool.{or-false}
 use Rattle.std.proofs.Math.Nat.{mul-le-mul_right}
 use Rattle.mi_base.specs.declared.records.LogEvent.{LogEvent}
 use Rattle.mi_base.specs.declared.records.LogEvent.TheVariants.{Update as Made, Split as Divides}
 use Rattle.mi_base.specs.declared.refusals.NoMemory.{NoMemory}
-use Rattle.mi_base.specs.History.{live, updates_of}
+use Rattle.mi_base.specs.History.{updates_of}
 use Rattle.mi_base.proofs.LiveLemmas.{length_filter}
 use Rattle.mi_board.specs.Boards.{BoardState, floor_of, is_passed}
-use Rattle.mi_core.specs.Events.{Can, Event, after, first_actor}
+use Rattle.mi_core.specs.Events.{Event, after, first_actor}
 use Rattle.mi_core.specs.Events.Event.{fork, absorb, depart, see, trim}
-use Rattle.mi_core.specs.Effects.{saw, noted}
+use Rattle.mi_core.specs.Effects.{noted}
 use Rattle.mi_core.specs.Kept.{Kept}
 use Rattle.mi_core.specs.Pages.{node_or_fresh}
 use Rattle.mi_core.specs.State.{State}
 use Rattle.mi_page.specs.Nodes.{Node}
 use Rattle.mi_world.specs.View.{View}
-use Rattle.mi_core.proofs.ActorLemmas.{at_set, set_else, set_there}
+use Rattle.mi_core.proofs.ActorLemmas.{set_else, set_there}
 use Rattle.mi_core.proofs.KeptEvents.{each_keeps}
 use Rattle.mi_entries.specs.Actors.{Actor, Pin, SplitWork, SweepWork}
 use Rattle.mi_job.specs.declared.care.CareTurn.{CareTurn}
-use Rattle.mi_job.specs.declared.care.CareTurn.TheVariants.{More, Idle, Done, Memory}
+use Rattle.mi_job.specs.declared.care.CareTurn.TheVariants.{Done}
 use Rattle.mi_job.specs.declared.care.Task.{Task}
 use Rattle.mi_job.specs.Claims.{ClaimsNone}
 use Rattle.mi_solo.specs.Sections.{Trims}
-use Rattle.mi_solo.specs.Solos.{IsCall, MayTurn, SoloState}
+use Rattle.mi_solo.specs.Solos.{IsCall, MayTurn}
 use Rattle.mi_solo.specs.States.{Does, actor_in, node_in, view_in}
 use Rattle.mi_solo.specs.Viewing.{pinned_log, swept_leaf}
 use Rattle.mi_tree.specs.declared.outcomes.Leaf.{Leaf}
@@ -44,9 +45,9 @@ use Rattle.mi_replay.specs.declared.splitters.SplitterSeat.{SplitterSeat}
 use Rattle.mi_replay.specs.Entries.{HasTrimmedTo, IsTrimmed, pages_from}
 use Rattle.mi_replay.specs.InOrder.{AllBy, BeginsWork, IsIdle}
 use Rattle.mi_replay.specs.Moving.{MakeCalls, MakesCall}
-use Rattle.mi_replay.specs.Settling.{EndsIdle, HoldsNothing, IsAtRest, IsSettled, Settles, TrimsAll, WorksOff, is_refused, resting}
-use Rattle.mi_replay.specs.Splitters.{HasLess, SplitterAt, SplitterFinished, SplitterMade, SplitterWaits, gave_up, is_given_up, lacks_memory, leaves_left, splits_left, sweeping}
-use Rattle.mi_replay.specs.Turns.{Chained, ComesTo, Goes, LeadsBy, Makes, Turn}
+use Rattle.mi_replay.specs.Settling.{HoldsNothing, IsAtRest, IsSettled, Settles, TrimsAll, Works, WorksOff, resting}
+use Rattle.mi_replay.specs.Splitters.{HasLess, SplitterAt, SplitterFinished, SplitterMade, gave_up, is_given_up, lacks_memory, leaves_left, splits_left, sweeping}
+use Rattle.mi_replay.specs.Turns.{Chained, Goes, LeadsBy, Makes, Turn}
 use Rattle.mi_replay.proofs.EntriesLemmas.{exact}
 use Rattle.mi_replay.proofs.EntriesLemmasRest.{all_settled, floor_is_end, nothing_passed, nothing_retired}
 use Rattle.mi_replay.proofs.EntriesLemmasTrim.{trimmed_first, trimmed_last, trims_fewer, trims_next}
@@ -155,78 +156,48 @@ work_falls s t k (inr h) =
     omega (arith, m, h.1)
 
 -- operations that ended, one after another, each of which had something to do
-pub record Working (a : ℕ) (s : State) (t : State) (y : SplitterSeat) : Type 0 where
-  pub made : List Turn
-  pub is : (wanted : Bool) → SplitterMade a s (resting wanted) t (resting wanted) made
-  pub grows : GrowsBySplits s.board.log t.board.log
-  pub kept : Kept t
-  pub rest : IsAtRest t
-  pub seat : y ≡ resting false
-
-pub working_first : (a : ℕ) (s : State) → Kept s → MayTurn s a → IsAtRest s → Working a s s (resting false)
-working_first a s k may rest =
+pub works_first : (a : ℕ) (s : State) → Kept s → MayTurn s a → IsAtRest s → Works a s false s
+works_first a s k may rest =
     let claims = claims_none s a may rest in
     record {
       made = [];
-      is = λ wanted. made_none a s (resting wanted) (record {
+      is = λ wanted. subst (λ (b : Bool). SplitterMade a s (resting wanted) s (resting b) []) (sym (or-false wanted)) (made_none a s (resting wanted) (record {
         may = may;
         ready = claims_ready (record { task = None }) (view_in s a) refl claims;
         unpassed = λ p e. absurd (none-some p (sym claims.nothing.leaf ∙ e));
-      });
+      }));
       grows = record { grows = grows_none s.board.log; enters = refl };
       kept = k;
       rest = rest;
-      seat = refl;
     }
 
-pub working_waits : (a : ℕ) (s t : State) (y : SplitterSeat) → Working a s t y → SplitterWaits t a y
-working_waits a s t y g = subst (SplitterWaits t a) (sym g.seat) (g.is false).waits
-
-module _ (a : ℕ) (s m : State) (z : SplitterSeat) (r : CareTurn) (t : State) (y : SplitterSeat) (g : Working a s m z) (h : SplitterFinished a m z r t y) where
+module _ (a : ℕ) (s m : State) (z : SplitterSeat) (r : CareTurn) (t : State) (y : SplitterSeat) (g : Works a s false m) (seat : z ≡ resting false) (h : SplitterFinished a m z r t y) where
   is_resting : (x : SplitterSeat) → x.care.task ≡ None → x ≡ resting x.wanted
   is_resting x e = ap (λ (o : Option Task). record { care = record { task = o }; wanted = x.wanted }) e
 
   more : (wanted : Bool) → SplitterMade a m (resting wanted) t (resting (wanted || lacks_memory r)) h.made
   more wanted =
       let P : Option Task → Option Task → Type 0 = λ o n. SplitterMade a m (record { care = record { task = o }; wanted = wanted }) t (record { care = record { task = n }; wanted = wanted || lacks_memory r }) h.made in
-      subst (λ (o : Option Task). P o None) (ap (λ (x : SplitterSeat). x.care.task) g.seat) (subst (λ (n : Option Task). P z.care.task n) h.over (h.anew wanted))
+      subst (λ (o : Option Task). P o None) (ap (λ (x : SplitterSeat). x.care.task) seat) (subst (λ (n : Option Task). P z.care.task n) h.over (h.anew wanted))
 
-  all : (wanted : Bool) → SplitterMade a s (resting wanted) t (resting (wanted || lacks_memory r)) (g.made ++ h.made)
-  all wanted = made_on a s (resting wanted) m (resting wanted) t (resting (wanted || lacks_memory r)) g.made h.made (g.is wanted) (more wanted)
-
-  rests : IsAtRest t
-  rests = rests_still m a h.made t g.rest h.is.chained h.is.by h.is.calls h.claims
-
-  grows : GrowsBySplits s.board.log t.board.log
-  grows = splits_on s.board.log m.board.log t.board.log g.grows h.grows
-
-  pub working_on : r ≡ Done → Working a s t y
-  working_on e = record {
+  -- one more operation
+  pub works_on : Works a s (lacks_memory r) t
+  works_on = record {
     made = g.made ++ h.made;
-    is = λ wanted. subst (λ (b : Bool). SplitterMade a s (resting wanted) t (resting b) (g.made ++ h.made)) (ap (λ q. wanted || lacks_memory q) e ∙ or_none wanted) (all wanted);
-    grows = grows;
+    is = λ wanted.
+        let before = subst (λ (b : Bool). SplitterMade a s (resting wanted) m (resting b) g.made) (or-false wanted) (g.is wanted) in
+        made_on a s (resting wanted) m (resting wanted) t (resting (wanted || lacks_memory r)) g.made h.made before (more wanted);
+    grows = splits_on s.board.log m.board.log t.board.log g.grows h.grows;
     kept = h.kept;
-    rest = rests;
-    seat = is_resting y h.over ∙ ap resting (h.wanted ∙ ap (λ (x : SplitterSeat). x.wanted || lacks_memory r) g.seat ∙ ap lacks_memory e);
+    rest = rests_still m a h.made t g.rest h.is.chained h.is.by h.is.calls h.claims;
   }
-    where
-      or_none : (b : Bool) → (b || false) ≡ b
-      or_none true = refl
-      or_none false = refl
 
-  pub working_falls : r ≡ Done → work_left t.board < work_left m.board
-  working_falls e =
-      work_falls m t h.kept (subst (λ (x : SplitterSeat). HasLess (sweeping x.care.task) m 0 t) g.seat (h.less e))
+  pub seat_rests : r ≡ Done → y ≡ resting false
+  seat_rests e = is_resting y h.over ∙ ap resting (h.wanted ∙ ap (λ (x : SplitterSeat). x.wanted || lacks_memory r) seat ∙ ap lacks_memory e)
 
-  pub worked : (result : Result (Unit {0}) NoMemory) → is_refused result ≡ lacks_memory r → EndsIdle result a t → WorksOff a s result t
-  worked result refused ends = record {
-    made = g.made ++ h.made;
-    is = λ wanted. subst (λ (b : Bool). SplitterMade a s (resting wanted) t (resting (wanted || b)) (g.made ++ h.made)) (sym refused) (all wanted);
-    grows = grows;
-    kept = h.kept;
-    rest = rests;
-    ends = ends;
-  }
+  pub works_fall : r ≡ Done → work_left t.board < work_left m.board
+  works_fall e =
+      work_falls m t h.kept (subst (λ (x : SplitterSeat). HasLess (sweeping x.care.task) m 0 t) seat (h.less e))
 
 -- trims up to a page, or to the last one
 pub record Trimming (a : ℕ) (s : State) (next : Option ℕ) (t : State) : Type 0 where
@@ -235,6 +206,7 @@ pub record Trimming (a : ℕ) (s : State) (next : Option ℕ) (t : State) : Type
   pub by : AllBy a made
   pub calls : MakeCalls made
   pub at : (turns : List Turn) (x : SplitterSeat) → SplitterAt turns s a x → SplitterAt (turns ++ made) t a x
+  pub gave : list_any (gave_up a false) made ≡ false
   pub board : t.board ≡ s.board
   pub may : MayTurn t a
   pub kept : Kept t
@@ -249,6 +221,7 @@ trimming_first a s may k rest floor = record {
   by = tt;
   calls = tt;
   at = λ turns x h. subst (λ us. SplitterAt us s a x) (sym (append-nil turns)) h;
+  gave = refl;
   board = refl;
   may = may;
   kept = k;
@@ -344,6 +317,7 @@ module _ (a : ℕ) (s u : State) (page : ℕ) (g : Trimming a s (Some page) u) (
           by = all_joined (λ (v : Turn). v.actor ≡ a) g.made (turn ∷ []) g.by (refl, tt);
           calls = all_joined (λ (v : Turn). MakesCall v.event) g.made (turn ∷ []) g.calls (tt, tt);
           at = λ turns x h. subst (λ us. SplitterAt us t a x) (append_assoc turns g.made (turn ∷ [])) (at_trim (turns ++ g.made) x (g.at turns x h));
+          gave = gave false g.made ∙ g.gave;
           board = board_then ∙ g.board;
           may = record {
             made = slice_get_within t.actors a (noted page (actor_in m a)) (ap (λ (z : State). slice_get z.actors a) trims.0.is ∙ set_there m.actors a (noted page (actor_in m a)) (actor_in m a) there_m);
@@ -363,6 +337,7 @@ trimmed_all a s t g = record {
   by = g.by;
   calls = g.calls;
   at = g.at;
+  gave = g.gave;
   board = g.board;
   may = g.may;
   kept = g.kept;
@@ -383,27 +358,31 @@ floor_whole a s k rest floor = ap (λ p. p.updates) (floor ∙ floor_is_end s k.
 
 pub settles : (a : ℕ) (s m t : State) → WorksOff a s (Ok tt) m → TrimsAll a m t → Settles a s (Ok tt) t
 settles a s m t w g = record {
-  made = w.made ++ g.made;
-  chained = chained_on s m t w.made g.made (w.is false).chained g.chained;
-  by = all_joined (λ (v : Turn). v.actor ≡ a) w.made g.made (w.is false).by g.by;
-  calls = all_joined (λ (v : Turn). MakesCall v.event) w.made g.made (w.is false).calls g.calls;
-  grows = subst (λ (b : BoardState). GrowsBySplits s.board.log b.log) (sym g.board) w.grows;
-  at = λ turns wanted h. subst (λ us. SplitterAt us t a (resting (wanted || false))) (append_assoc turns w.made g.made) (g.at (turns ++ w.made) (resting (wanted || false)) ((w.is wanted).at turns h));
+  made = w.0.made ++ g.made;
+  chained = chained_on s m t w.0.made g.made (w.0.is false).chained g.chained;
+  by = all_joined (λ (v : Turn). v.actor ≡ a) w.0.made g.made (w.0.is false).by g.by;
+  calls = all_joined (λ (v : Turn). MakesCall v.event) w.0.made g.made (w.0.is false).calls g.calls;
+  grows = subst (λ (b : BoardState). GrowsBySplits s.board.log b.log) (sym g.board) w.0.grows;
+  at = λ turns wanted h. subst (λ us. SplitterAt us t a (resting (wanted || false))) (append_assoc turns w.0.made g.made) (g.at (turns ++ w.0.made) (resting (wanted || false)) ((w.0.is wanted).at turns h));
+  why = sym (
+      list_any-append (gave_up a false) w.0.made g.made ∙ ap (λ b. b || list_any (gave_up a false) g.made) (sym (w.0.is false).gave) ∙ g.gave
+      );
   may = g.may;
   claims = claims_none t a g.may g.rest;
-  leaves = settled_core t g.kept g.rest (subst IsIdle (sym g.board) w.ends.0) g.trimmed;
+  leaves = settled_core t g.kept g.rest (subst IsIdle (sym g.board) w.1.0) g.trimmed;
 }
 
 pub settles_short : (a : ℕ) (s t : State) (e : NoMemory) → WorksOff a s (Err e) t → Settles a s (Err e) t
 settles_short a s t e w = record {
-  made = w.made;
-  chained = (w.is false).chained;
-  by = (w.is false).by;
-  calls = (w.is false).calls;
-  grows = w.grows;
-  at = λ turns wanted h. (w.is wanted).at turns h;
-  may = (w.is false).waits.may;
-  claims = claims_none t a (w.is false).waits.may w.rest;
+  made = w.0.made;
+  chained = (w.0.is false).chained;
+  by = (w.0.is false).by;
+  calls = (w.0.is false).calls;
+  grows = w.0.grows;
+  at = λ turns wanted h. (w.0.is wanted).at turns h;
+  why = (w.0.is false).gave;
+  may = (w.0.is false).waits.may;
+  claims = claims_none t a (w.0.is false).waits.may w.0.rest;
   leaves = tt;
 }
 

@@ -1,5 +1,5 @@
 -- Which event a section of the splitter made, by what it made of its actor's claim and sweep.
-use Rattle.std.proofs.Common.{◌≡◌, ◌≢◌, ℕ, suc, zero, ◌+◌, List, [], ◌∷◌, ◌++◌, length, Bool, true, false, not, ◌&&◌, ◌||◌, is_some, Option, Some, None, refl, sym, ap, ◌∙◌, subst, arith, length-append, inl, inr, ◌⊎◌}
+use Rattle.std.proofs.Common.{◌≡◌, ◌≢◌, ℕ, suc, zero, List, [], ◌∷◌, ◌++◌, length, Bool, true, false, not, ◌&&◌, ◌||◌, is_some, Some, None, refl, sym, ap, ◌∙◌, subst, arith, length-append, inl, inr, ◌⊎◌}
 use Rattle.std.specs.Prelude.{slice_get, slice_set}
 use Rattle.std.proofs.lemmas.Bool.{false≢true}
 use Rattle.std.proofs.lemmas.Option.{none-some, same_Some}
@@ -11,7 +11,7 @@ use Rattle.mi_board.specs.Actors.{actor_at, is_claim, is_claimed, with_reserved}
 use Rattle.mi_board.specs.Boards.{BoardState, floor_of, is_open, is_passed}
 use Rattle.mi_board.specs.Floors.{earliest_in}
 use Rattle.mi_core.specs.Events.{Can, Event, after}
-use Rattle.mi_core.specs.Events.Event.{see, look, meet, refuse, refuse_at, visit, start, trim, miss_shard, claim_shard, release_shard, reserve, pin, unpin, claim_leaf, release_leaf, insert, delete, allot, lack, grow, split_page, post, gather, copy_in, uncopy, publish, give_up, take_sweep, take_split, no_work, sweep, fork, absorb, depart}
+use Rattle.mi_core.specs.Events.Event.{reserve, pin, unpin, claim_leaf, release_leaf, insert, delete, publish, give_up, take_sweep, take_split, sweep, fork, absorb, depart}
 use Rattle.mi_core.specs.Kept.{Kept}
 use Rattle.mi_core.specs.State.{State}
 use Rattle.mi_core.proofs.ActorLemmas.{set_there}

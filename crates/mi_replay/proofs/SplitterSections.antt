@@ -1,24 +1,23 @@
 -- What a section of the splitter is as an event of the core.
-use Rattle.std.proofs.Common.{◌≡◌, ◌≢◌, ℕ, suc, zero, ◌+◌, ◌-◌, ◌*◌, ◌<◌, ◌≤◌, List, [], ◌∷◌, ◌++◌, length, map, drop, Bool, true, false, cond, not, ◌&&◌, ◌||◌, nat_lt, IsTrue, Option, Some, None, is_some, refl, sym, ap, ◌∙◌, subst, arith, append-nil, eqb-true, length-append, inl, inr, ◌⊎◌}
-use Rattle.std.specs.Prelude.{slice_get, slice_set, ◌==◌, Ok}
-use Rattle.std.specs.List.{filter, list_any}
+use Rattle.std.proofs.Common.{◌≡◌, ℕ, ◌+◌, ◌-◌, ◌*◌, ◌<◌, ◌≤◌, List, [], ◌∷◌, ◌++◌, length, map, Bool, true, false, cond, not, ◌&&◌, ◌||◌, nat_lt, Option, Some, None, is_some, refl, sym, ap, ◌∙◌, subst, arith, append-nil, eqb-true, length-append, inl, inr, ◌⊎◌}
+use Rattle.std.specs.Prelude.{slice_get, ◌==◌, Ok}
+use Rattle.std.specs.List.{list_any}
 use Rattle.std.proofs.lemmas.Bool.{and_parts, false≢true, ltb-true, not-true}
 use Rattle.std.proofs.lemmas.List.{length-map}
-use Rattle.std.proofs.lemmas.Option.{get_or_from_slice_get, none-some, same_Some, slice_get-get_or, slice_get_within}
+use Rattle.std.proofs.lemmas.Option.{get_or_from_slice_get, none-some, same_Some, slice_get-get_or}
 use Rattle.mi_base.specs.declared.records.LogEvent.{LogEvent}
 use Rattle.mi_base.specs.declared.records.LogEvent.TheVariants.{Split as Divides}
 use Rattle.mi_base.specs.declared.records.Position.{Position}
 use Rattle.mi_base.specs.Configuration.{Configuration}
 use Rattle.mi_base.specs.History.{at_position, entered, splits_of, updates_of}
 use Rattle.mi_base.proofs.HistoryLemmas.{entered-append, few_updates, updates_of-append}
-use Rattle.mi_blink.specs.declared.turns.Why.{Why}
 use Rattle.mi_blink.specs.declared.turns.Why.TheVariants.{NoPages, Memory as NoMemory}
 use Rattle.mi_blink.specs.declared.walk.WalkTurn.{WalkTurn}
 use Rattle.mi_blink.specs.declared.walk.WalkTurn.TheVariants as walk
 use Rattle.mi_board.specs.Actors.{without_claim}
 use Rattle.mi_board.specs.Boards.{BoardState, floor_of, is_passed, with_actor}
 use Rattle.mi_core.specs.Effects.{saw}
-use Rattle.mi_core.specs.Events.{Can, Event, Leads, after, copied_of, first_actor}
+use Rattle.mi_core.specs.Events.{Can, Event, after, copied_of, first_actor}
 use Rattle.mi_core.specs.Events.Event.{claim_leaf, give_up, publish, release_leaf, sweep, take_split, take_sweep}
 use Rattle.mi_core.specs.Kept.{Kept}
 use Rattle.mi_core.specs.State.{State, put_actor, put_board}
@@ -36,8 +35,7 @@ use Rattle.mi_job.specs.Caring as caring
 use Rattle.mi_solo.specs.Solos.{Calls, IsCall, MayTurn}
 use Rattle.mi_solo.specs.States.{actor_in, view_in}
 use Rattle.mi_solo.specs.Viewing.{copy_keys, pinned_log, shown_to, swept_leaf}
-use Rattle.mi_solo.proofs.OwnLemmas.{goes_on as ended_same, mine}
-use Rattle.mi_solo.proofs.ViewLemmas.{wanted_is}
+use Rattle.mi_solo.proofs.OwnLemmas.{mine}
 use Rattle.mi_solo.proofs.GatheredLemmas.{all_copied}
 use Rattle.mi_solo.proofs.WorkEvents.{gives_up}
 use Rattle.mi_split.specs.declared.split.SplitOp.{SplitOp}
@@ -51,7 +49,7 @@ use Rattle.mi_tree.specs.declared.answers.Work.TheVariants as work
 use Rattle.mi_tree.specs.declared.outcomes.Leaf.{Leaf}
 use Rattle.mi_tree.specs.Cells.{leaves, same_cell}
 use Rattle.mi_tree.specs.Counting.{is_wanted, leaf_with, population}
-use Rattle.mi_tree.specs.Growing.{Grows, GrowsBySplits}
+use Rattle.mi_tree.specs.Growing.{GrowsBySplits}
 use Rattle.mi_tree.specs.Legal.{cells_of}
 use Rattle.mi_tree.proofs.GrowingLemmas.{grows_length, grows_none}
 use Rattle.mi_tree.proofs.LeafLemmas.{same_cell_is}
@@ -64,7 +62,7 @@ use Rattle.mi_replay.specs.InOrder as order
 use Rattle.mi_replay.specs.InOrder.{EndsWork, IsIdle}
 use Rattle.mi_replay.specs.Moving.{MakesCall, Moves}
 use Rattle.mi_replay.specs.Splitters.{HasLess, is_given_up, lacks_memory, leaves_left, splits_left, sweeping}
-use Rattle.mi_replay.specs.Turns.{Goes, LeadsBy}
+use Rattle.mi_replay.specs.Turns.{Goes}
 use Rattle.mi_replay.proofs.SplitterEvents.{SameTasks, ends_claim, ends_sweep, goes_on, same_tasks, takes_leaf, takes_sweep, was_idle}
 use Rattle.mi_replay.proofs.SplitterWork.{drops_one, may_take, passes_one, same_left, same_taken}
 
@@ -184,25 +182,32 @@ module _ (s t : State) (k : Kept s) (a : ℕ) (may : MayTurn s a) (settings : t.
       (sym (pin_shown t.board.log (actor_in t a).pin) ∙ pins ∙ pin_shown s.board.log (actor_in s a).pin) (subst (λ (z : State). IsIdle z.board) l.is idle)
 
   module _ (unpassed : (p : List ℕ) → (actor_in s a).claim ≡ Some p → is_passed p s.board ≡ false) where
+    -- a section whose event leaves as much to do
+    tasks_stay : (e : Option Event) → Goes e s a t → MakesCall e → SameTasks s t → (task : Option Task) (answer : CareTurn) (new : Option Task) → (task ≡ None → answer ≡ More → order.GivesWork e)
+        → (ends_turn answer ≡ true → EndsWork e a t) → is_given_up false e ≡ lacks_memory answer → is_given_up true e ≡ false → ((p : List ℕ) → (actor_in t a).claim ≡ Some p → is_passed p t.board ≡ false)
+        → (answer ≡ Done → ⊥) → sweeping new ≤ sweeping task → Told a s task answer new t
+    tasks_stay e goes call tasks task answer new gives ends lacks kept_up free done le = record {
+      event = e;
+      goes = goes;
+      call = call;
+      gives = gives;
+      ends = ends;
+      lacks = lacks;
+      full = λ all. absurd (false≢true (sym kept_up ∙ all));
+      unpassed = free;
+      grows = by_splits s.board.log t.board.log tasks.log;
+      no_more = tasks_left tasks (sweeping task) (sweeping new) le;
+      less = λ e. absurd (done e);
+    }
+
     -- a section after which the claim stands as it stood
     stands : Moves s a t → (task : Option Task) (answer : CareTurn) (new : Option Task) → (actor_in t a).claim ≡ (actor_in s a).claim
         → (swept_leaf (actor_in s a).sweep ≡ None → swept_leaf (actor_in t a).sweep ≡ None) → (actor_in t a).own ≡ (actor_in s a).own
         → ends_turn answer ≡ false → lacks_memory answer ≡ false → (task ≡ None → answer ≡ More → ⊥) → (answer ≡ Done → ⊥) → sweeping new ≤ sweeping task → Told a s task answer new t
     stands moves task answer new claim unswept own ends lacks gives done le =
         let chosen : (e : Option Event) × Goes e s a t × MakesCall e × ((pages : Bool) → is_given_up pages e ≡ false) × SameTasks s t = choose moves in
-        record {
-          event = chosen.0;
-          goes = chosen.1;
-          call = chosen.2;
-          gives = λ none more. absurd (gives none more);
-          ends = λ e. absurd (false≢true (sym ends ∙ e));
-          lacks = chosen.3 false ∙ sym lacks;
-          full = λ e. absurd (false≢true (sym (chosen.3 true) ∙ e));
-          unpassed = λ p e. same_unpassed chosen.4 p (unpassed p (sym claim ∙ e));
-          grows = by_splits s.board.log t.board.log chosen.4.log;
-          no_more = tasks_left chosen.4 (sweeping task) (sweeping new) le;
-          less = λ e. absurd (done e);
-        }
+        tasks_stay chosen.0 chosen.1 chosen.2 chosen.4 task answer new (λ none more. absurd (gives none more)) (λ e. absurd (false≢true (sym ends ∙ e))) (chosen.3 false ∙ sym lacks) (chosen.3 true)
+        (λ p e. same_unpassed chosen.4 p (unpassed p (sym claim ∙ e))) done le
       where
         choose : Moves s a t → (e : Option Event) × Goes e s a t × MakesCall e × ((pages : Bool) → is_given_up pages e ≡ false) × SameTasks s t
         choose (inl same) = (None, same, tt, none_given, subst (SameTasks s) (sym same) (same_tasks s))
@@ -213,13 +218,7 @@ module _ (s t : State) (k : Kept s) (a : ℕ) (may : MayTurn s a) (settings : t.
 
     idles : Moves s a t → GivesWork (view_in s a) (view_in t a) work.Idle → Told a s None Idle None t
     idles moves g =
-        stands moves None Idle None g.answer.2.leaf (λ none. g.answer.3.sweep ∙ none) g.update.own refl refl (λ _ e. is_idle e) (λ e. is_not_done e) (omega arith)
-      where
-        is_idle : Idle ≡ More → ⊥
-        is_idle e = cc
-
-        is_not_done : Idle ≡ Done → ⊥
-        is_not_done e = cc
+        stands moves None Idle None g.answer.2.leaf (λ none. g.answer.3.sweep ∙ none) g.update.own refl refl (λ _ e. cc) (λ e. cc) (omega arith)
 
     -- a sweep is taken
     begins_sweep : Moves s a t → (actor_in s a).claim ≡ None → swept_leaf (actor_in s a).sweep ≡ None → (prefix : List ℕ) → GivesWork (view_in s a) (view_in t a) (work.Sweep prefix) → (op : SweepOp)
@@ -260,23 +259,9 @@ module _ (s t : State) (k : Kept s) (a : ℕ) (may : MayTurn s a) (settings : t.
         ] in
         let is = taken.1 in
         let tasks : SameTasks s t = subst (SameTasks s) (sym is) (record { settings = refl; log = refl; retired = refl; passed = refl }) in
-        record {
-          event = Some (take_split leaf.prefix);
-          goes = goes_by (take_split leaf.prefix) taken.0 is;
-          call = tt;
-          gives = λ _ _. tt;
-          ends = λ e. absurd (false≢true e);
-          lacks = refl;
-          full = λ e. absurd (false≢true e);
-          unpassed = λ p e. ap (λ z. is_passed z t.board) (same_Some p leaf.prefix (sym e ∙ g.answer.2)) ∙ free_unpassed;
-          grows = by_splits s.board.log t.board.log tasks.log;
-          no_more = tasks_left tasks 0 0 (omega arith);
-          less = λ e. absurd (more_is e);
-        }
+        tasks_stay (Some (take_split leaf.prefix)) (goes_by (take_split leaf.prefix) taken.0 is) tt tasks None More (Some (Split op)) (λ _ _. tt) (λ e. absurd (false≢true e)) refl refl
+        (λ p e. ap (λ z. is_passed z t.board) (same_Some p leaf.prefix (sym e ∙ g.answer.2)) ∙ free_unpassed) (λ e. cc) (omega arith)
       where
-        more_is : More ≡ Done → ⊥
-        more_is e = cc
-
         free_unpassed : is_passed leaf.prefix t.board ≡ false
         free_unpassed =
             let first = g.answer.1 in
@@ -456,22 +441,8 @@ module _ (s t : State) (k : Kept s) (a : ℕ) (may : MayTurn s a) (settings : t.
       memory_wanted e op =
           let up = which false e in
           let tasks : SameTasks s t = subst (SameTasks s) (sym up.1) (record { settings = refl; log = refl; retired = refl; passed = refl }) in
-          record {
-            event = Some (give_up false);
-            goes = goes_by (give_up false) up.0 up.1;
-            call = tt;
-            gives = λ none _. absurd (none-some _ (sym none));
-            ends = λ _. tt;
-            lacks = refl;
-            full = λ e. absurd (false≢true e);
-            unpassed = λ p e. absurd (none-some p (sym none ∙ e));
-            grows = by_splits s.board.log t.board.log tasks.log;
-            no_more = tasks_left tasks 0 0 (omega arith);
-            less = λ e. absurd (is_not_done e);
-          }
-        where
-          is_not_done : Memory ≡ Done → ⊥
-          is_not_done e = cc
+          tasks_stay (Some (give_up false)) (goes_by (give_up false) up.0 up.1) tt tasks (Some (Split op)) Memory None (λ none _. absurd (none-some _ (sym none))) (λ _. tt) refl refl
+          (λ p e. absurd (none-some p (sym none ∙ e))) (λ e. cc) (omega arith)
 
     module _ (moves : Moves s a t) (kt : Kept t) (answer : CareTurn) (new : Option Task) where
       answered : (task : Option Task) (told : CareTurn) (after : Option Task) → answer ≡ told → new ≡ after → Told a s task told after t → Told a s task answer new t
@@ -486,10 +457,7 @@ module _ (s t : State) (k : Kept s) (a : ℕ) (may : MayTurn s a) (settings : t.
           → sweeps.Turned op (view_in s a) told next (view_in t a) → caring.LeadsSweep told next answer new → Told a s (Some (Sweep op)) answer new t
       sweeps_on op next ready own walk.More h b =
           answered (Some (Sweep op)) More (Some (Sweep next)) b.0 b.1
-          (stands moves (Some (Sweep op)) More (Some (Sweep next)) h.leaf.leaf (λ none. absurd (none-some op.prefix (sym none ∙ ready.0.given))) own refl refl (λ none _. none-some _ (sym none)) (λ e. more_is e) (omega arith))
-        where
-          more_is : More ≡ Done → ⊥
-          more_is e = cc
+          (stands moves (Some (Sweep op)) More (Some (Sweep next)) h.leaf.leaf (λ none. absurd (none-some op.prefix (sym none ∙ ready.0.given))) own refl refl (λ none _. none-some _ (sym none)) (λ e. cc) (omega arith))
       sweeps_on op next ready own walk.Done h b = answered (Some (Sweep op)) Done None b.0 b.1 (sweep_ends moves op.prefix ready.0.given h.outcome.1 ready.1 (h.leaf.leaf ∙ ready.1) op)
 
       splits_on : (op next : SplitOp) → caring.TaskIsReady (Some (Split op)) (view_in s a) → (own : (actor_in t a).own ≡ (actor_in s a).own) → (told : SplitTurn)
@@ -497,10 +465,7 @@ module _ (s t : State) (k : Kept s) (a : ℕ) (may : MayTurn s a) (settings : t.
       splits_on op next ready own divided.More h b =
           answered (Some (Split op)) More (Some (Split next)) b.0 b.1
           (stands moves (Some (Split op)) More (Some (Split next)) (h.outcome.0.claimed ∙ ap (λ (l : Leaf). Some l.prefix) h.leaf ∙ sym ready.0.claimed) (λ none. h.sweep.sweep ∙ none) own refl refl
-          (λ none _. none-some _ (sym none)) (λ e. more_is e) (omega arith))
-        where
-          more_is : More ≡ Done → ⊥
-          more_is e = cc
+          (λ none _. none-some _ (sym none)) (λ e. cc) (omega arith))
       splits_on op next ready own (divided.Published position) h b =
           answered (Some (Split op)) Done None b.0 b.1 (split_published moves kt op.leaf.prefix ready.0.claimed position h.outcome.1 op)
       splits_on op next ready own (divided.GivenUp (NoPages limit)) h b =

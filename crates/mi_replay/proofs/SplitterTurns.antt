@@ -1,11 +1,11 @@
 -- Turn after turn of the splitter makes a block.
-use Rattle.std.proofs.Common.{◌≡◌, ◌≢◌, ℕ, suc, zero, ◌+◌, ◌*◌, ◌-◌, ◌<◌, ◌≤◌, List, [], ◌∷◌, ◌++◌, length, Bool, true, false, not, ◌&&◌, ◌||◌, IsTrue, Option, Some, None, is_some, refl, sym, ap, ◌∙◌, subst, arith, append-nil, append_assoc, eq-eqb, eqb-true, length-append, inl, inr, ◌⊎◌}
+use Rattle.std.proofs.Common.{◌≡◌, ℕ, suc, zero, ◌+◌, ◌*◌, ◌<◌, ◌≤◌, List, [], ◌∷◌, ◌++◌, length, Bool, true, false, not, ◌&&◌, ◌||◌, IsTrue, Option, Some, None, is_some, refl, sym, ap, ◌∙◌, subst, arith, append-nil, append_assoc, eq-eqb, eqb-true, length-append, inl, inr, ◌⊎◌}
 use Rattle.std.specs.Prelude.{slice_get, is_none, ◌==◌}
-use Rattle.std.specs.List.{AllByRecursion, list_any}
-use Rattle.std.proofs.lemmas.Bool.{and_parts, false≢true, or_cases}
+use Rattle.std.specs.List.{list_any}
+use Rattle.std.proofs.lemmas.Bool.{false≢true, or_cases}
 use Rattle.std.proofs.lemmas.List.Folds.{list_any-append}
 use Rattle.std.proofs.lemmas.Option.{get_or_from_slice_get, none-some, slice_get-get_or, slice_get_within}
-use Rattle.mi_base.specs.declared.records.LogEvent.{LogEvent}
+use Rattle.std.proofs.Math.Bool.{or_assoc, or-false}
 use Rattle.mi_blink.specs.declared.turns.Why.TheVariants.{NoPages, Memory as NoMemory}
 use Rattle.mi_blink.specs.declared.walk.WalkTurn.{WalkTurn}
 use Rattle.mi_blink.specs.declared.walk.WalkTurn.TheVariants as walk
@@ -27,7 +27,7 @@ use Rattle.mi_job.specs.Claims.{ClaimsNone}
 use Rattle.mi_job.proofs.EndLemmas.{care_small}
 use Rattle.mi_solo.specs.Solos.{MayTurn, Section, SoloState, view_of}
 use Rattle.mi_solo.specs.States.{Does, actor_in, view_in}
-use Rattle.mi_solo.proofs.OwnLemmas.{goes_on as ended_same, mine}
+use Rattle.mi_solo.proofs.OwnLemmas.{mine}
 use Rattle.mi_split.specs.declared.split.SplitTurn.{SplitTurn}
 use Rattle.mi_split.specs.declared.split.SplitTurn.TheVariants as divided
 use Rattle.mi_split.specs.Splitting.{split_most}
@@ -40,8 +40,8 @@ use Rattle.mi_world.specs.Boards.{GivesWork}
 use Rattle.mi_world.specs.View.{View}
 use Rattle.mi_world.proofs.ViewLemmas.{later_none}
 use Rattle.mi_replay.specs.declared.splitters.SplitterSeat.{SplitterSeat}
-use Rattle.mi_replay.specs.InOrder.{AllBy, BeginsAtOnce, BeginsWork, EndsWork, IsIdle, LastEndsWork}
-use Rattle.mi_replay.specs.Moving.{MakeCalls, MakesCall, Moves}
+use Rattle.mi_replay.specs.InOrder.{BeginsAtOnce, BeginsWork, EndsWork, IsIdle, LastEndsWork}
+use Rattle.mi_replay.specs.Moving.{MakesCall, Moves}
 use Rattle.mi_replay.specs.Splitters.{AreSections, HasLess, IsSection, SplitterAt, SplitterFinished, SplitterMade, SplitterTurned, SplitterTurnsMade, SplitterWaits, StopsAt, gave_up, is_given_up, lacks_memory, leaves_left, splits_left, sweeping}
 use Rattle.mi_replay.specs.Turns.{Chained, ComesTo, Turn, busy}
 use Rattle.mi_replay.proofs.RunLemmas.{chained_on}
@@ -223,10 +223,6 @@ pub taken_then : (a : ℕ) (s : State) (m : SoloState) (x : SplitterSeat) (r : C
     → SplitterTurned m.turn m.state x r y t → Taken a s x r t y
 taken_then a s m x r t y turn does k waits h = taken a s m.state x r t y does k waits (subst (λ (n : ℕ). SplitterTurned n m.state x r y t) turn h)
 
-or_none : (b : Bool) → (b || false) ≡ b
-or_none true = refl
-or_none false = refl
-
 module _ (a : ℕ) (s : State) (x : SplitterSeat) (r : CareTurn) (t : State) (y : SplitterSeat) (h : Taken a s x r t y) where
   abbrev pub turn : Turn
   turn = turn_by a x.care.task r h.told.event s t
@@ -237,7 +233,7 @@ module _ (a : ℕ) (s : State) (x : SplitterSeat) (r : CareTurn) (t : State) (y 
   gave : (pages : Bool) (turns : List Turn) → list_any (gave_up a pages) (turns ++ turn ∷ []) ≡ (list_any (gave_up a pages) turns || is_given_up pages h.told.event)
   gave pages turns =
       list_any-append (gave_up a pages) turns (turn ∷ [])
-      ∙ ap (λ b. list_any (gave_up a pages) turns || b) (or_none ((a == a) && is_given_up pages h.told.event) ∙ ap (λ b. b && is_given_up pages h.told.event) (eq-eqb a a refl))
+      ∙ ap (λ b. list_any (gave_up a pages) turns || b) (or-false ((a == a) && is_given_up pages h.told.event) ∙ ap (λ b. b && is_given_up pages h.told.event) (eq-eqb a a refl))
 
   splitter_on : (turns : List Turn) → SplitterAt turns s a x → SplitterAt (turns ++ turn ∷ []) t a y
   splitter_on turns at = record {
@@ -260,6 +256,7 @@ module _ (a : ℕ) (s : State) (x : SplitterSeat) (r : CareTurn) (t : State) (y 
     chained = (refl, record { between = h.between; comes = h.comes; goes = h.told.goes }, refl);
     by = (refl, tt);
     calls = (h.told.call, tt);
+    gave = h.turned.wanted ∙ ap (λ b. x.wanted || b) (sym h.told.lacks ∙ sym (gave false []));
     at = splitter_on;
     waits = h.waits;
   }
@@ -286,7 +283,7 @@ module _ (a : ℕ) (s : State) (x : SplitterSeat) (r : CareTurn) (t : State) (y 
   over_then not_more = way.over not_more
 
 pub made_none : (a : ℕ) (s : State) (x : SplitterSeat) → SplitterWaits s a x → SplitterMade a s x s x []
-made_none a s x waits = record { chained = refl; by = tt; calls = tt; at = λ turns h. subst (λ us. SplitterAt us s a x) (sym (append-nil turns)) h; waits = waits }
+made_none a s x waits = record { chained = refl; by = tt; calls = tt; gave = sym (or-false x.wanted); at = λ turns h. subst (λ us. SplitterAt us s a x) (sym (append-nil turns)) h; waits = waits }
 
 pub made_on : (a : ℕ) (s : State) (x : SplitterSeat) (m : State) (z : SplitterSeat) (t : State) (y : SplitterSeat) (us vs : List Turn) → SplitterMade a s x m z us → SplitterMade a m z t y vs
     → SplitterMade a s x t y (us ++ vs)
@@ -294,6 +291,9 @@ made_on a s x m z t y us vs g h = record {
   chained = chained_on s m t us vs g.chained h.chained;
   by = all_joined (λ (u : Turn). u.actor ≡ a) us vs g.by h.by;
   calls = all_joined (λ (u : Turn). MakesCall u.event) us vs g.calls h.calls;
+  gave =
+      let f : Turn → Bool = gave_up a false in
+      h.gave ∙ ap (λ b. b || list_any f vs) g.gave ∙ or_assoc x.wanted (list_any f us) (list_any f vs) ∙ ap (λ b. x.wanted || b) (sym (list_any-append f us vs));
   at = λ turns at. subst (λ ws. SplitterAt ws t a y) (append_assoc turns us vs) (h.at (turns ++ us) (g.at turns at));
   waits = h.waits;
 }
@@ -380,8 +380,8 @@ module _ (a : ℕ) (s : State) (x : SplitterSeat) (m : State) (z : SplitterSeat)
   way_on t y h = record {
     made = g.made ++ turn a m z More t y h ∷ [];
     is = made_on a s x m z t y g.made (turn a m z More t y h ∷ []) g.is (made_one a m z More t y h);
-    anew = λ wanted. subst (λ (b : Bool). SplitterMade a s (record { care = x.care; wanted = wanted }) t (record { care = y.care; wanted = b }) (g.made ++ turn a m z More t y h ∷ [])) (or_none wanted) (anew_on More t y h wanted);
-    wanted = h.turned.wanted ∙ or_none z.wanted ∙ g.wanted;
+    anew = λ wanted. subst (λ (b : Bool). SplitterMade a s (record { care = x.care; wanted = wanted }) t (record { care = y.care; wanted = b }) (g.made ++ turn a m z More t y h ∷ [])) (or-false wanted) (anew_on More t y h wanted);
+    wanted = h.turned.wanted ∙ or-false z.wanted ∙ g.wanted;
     grows = splits_on s.board.log m.board.log t.board.log g.grows (grows_then a m z More t y h);
     no_more = no_more_on (sweeping x.care.task) (sweeping z.care.task) (sweeping y.care.task) s m t g.no_more (no_more_then a m z More t y h);
   }
@@ -475,7 +475,7 @@ idle_again a t y v g none claims =
         outcome = claims;
       };
       moves = inl refl;
-      wanted = sym (or_none y.wanted);
+      wanted = sym (or-false y.wanted);
     }
   where
     found : GivesWork (view_in t a) (view_in t a) work.Idle

@@ -1,19 +1,18 @@
 -- What a splitter's view tells of the board: its floor, its next work, and what is left to do.
-use Rattle.std.proofs.Common.{◌≡◌, ◌≢◌, ℕ, suc, zero, ◌+◌, ◌-◌, ◌*◌, ◌<◌, ◌≤◌, List, [], ◌∷◌, ◌++◌, length, map, set, take, drop, Bool, true, false, cond, not, ◌&&◌, ◌||◌, Option, Some, None, is_some, refl, sym, ap, ◌∙◌, subst, arith, length-append, inl, inr, ◌⊎◌}
+use Rattle.std.proofs.Common.{◌≡◌, ◌≢◌, ℕ, suc, zero, ◌+◌, ◌<◌, ◌≤◌, List, [], ◌∷◌, length, set, take, drop, Bool, true, false, cond, not, ◌&&◌, ◌||◌, Some, None, is_some, refl, sym, ap, ◌∙◌, subst, arith, inl, inr}
 use Rattle.std.specs.Prelude.{slice_get, slice_index_or}
 use Rattle.std.specs.List.{filter, find, list_any}
 use Rattle.std.proofs.lemmas.Bool.{and_parts, cases_Bool, false≢true, not-true, or_left}
 use Rattle.std.proofs.lemmas.List.{length-drop}
 use Rattle.std.proofs.lemmas.Map.Views.{any-filter_same}
-use Rattle.std.proofs.lemmas.Option.{none-some, same_Some}
+use Rattle.std.proofs.lemmas.Option.{same_Some}
 use Rattle.mi_base.specs.declared.records.LogEvent.{LogEvent}
-use Rattle.mi_base.specs.declared.records.LogEvent.TheVariants.{Split}
 use Rattle.mi_base.specs.declared.records.Position.{Position}
 use Rattle.mi_base.specs.Configuration.{Configuration}
-use Rattle.mi_base.specs.History.{IsPosition, at_position, end_of, events_at, splits_of, updates_of}
+use Rattle.mi_base.specs.History.{IsPosition, at_position, end_of, events_at, updates_of}
 use Rattle.mi_board.specs.declared.actors.ActorState.{ActorState}
 use Rattle.mi_board.specs.Actors.{idle, is_claim, is_claimed, with_claim}
-use Rattle.mi_board.specs.Boards.{BoardState, floor_of, is_open, is_passed, leaf_claimed, next_split, next_sweep, passing, prefix_or}
+use Rattle.mi_board.specs.Boards.{BoardState, floor_of, is_open, is_passed, leaf_claimed, next_sweep, passing, prefix_or}
 use Rattle.mi_board.specs.Floors.{earliest_in}
 use Rattle.mi_core.specs.Effects.{saw}
 use Rattle.mi_core.specs.Events.{Can, after}
@@ -27,7 +26,7 @@ use Rattle.mi_entries.specs.Actors.{Actor}
 use Rattle.mi_entries.specs.Entries.{grid}
 use Rattle.mi_entries.proofs.MemberLemmas.{IsOne, find_in}
 use Rattle.mi_solo.specs.Viewing.{holder_from, shown_to}
-use Rattle.mi_solo.proofs.SectionLemmas.{least_below, least_one}
+use Rattle.mi_solo.proofs.SectionLemmas.{least_below}
 use Rattle.mi_solo.proofs.ViewLemmas.{not_claim}
 use Rattle.mi_tree.specs.declared.outcomes.Leaf.{Leaf}
 use Rattle.mi_tree.specs.Catalog.{prefixes_of}

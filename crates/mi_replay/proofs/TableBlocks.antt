@@ -160,6 +160,7 @@ stopped c turns s t k script a b Held g at =
     inr (inr (record {
       op = asked held.job;
       under_way = ap (slice_get script) at.ended_is ∙ under_op (turns ++ g.made) t k script _ (length b.replies.items) at.to b.job held.job held.is at.under;
+      begun = at.busy_is ∙ ap is_some held.is;
       held = held.held;
     }))
 stopped c turns s t k script a b Ended g at = inl g.stops.0

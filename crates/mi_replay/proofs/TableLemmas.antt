@@ -220,7 +220,7 @@ waits_on j s t script a o h = record {
   fits = subst (λ c. IsScriptOver (metric_space c) script) (sym o.view.later.settings) h.fits;
   at = waits_at_on (view_in s j) (view_in t j) a.job o.view h.at;
   few = h.few;
-  left = h.left;
+  asks = h.asks;
   room = h.room;
 }
 

@@ -1,8 +1,8 @@
 -- Where all stand before anything was done, and how items follow one another.
 use Rattle.std.proofs.Common.{◌≡◌, ℕ, zero, suc, ◌+◌, ◌<◌, ◌≤◌, List, [], ◌∷◌, ◌++◌, length, false, true, Option, Some, None, refl, sym, ap, ◌∙◌, subst, arith, append-nil, append_assoc, inl, inr}
-use Rattle.std.specs.Prelude.{is_some, slice_get}
+use Rattle.std.specs.Prelude.{◌==◌, ◌&&◌, is_none, is_some, slice_get}
 use Rattle.std.specs.List.{AllByRecursion}
-use Rattle.std.proofs.lemmas.Bool.{false≢true}
+use Rattle.std.proofs.lemmas.Bool.{eqb-true, false≢true}
 use Rattle.std.proofs.lemmas.List.{get_or-replicate, length-replicate}
 use Rattle.std.proofs.lemmas.Option.{none-some, same_Some, slice_get_within}
 use Rattle.mi_base.specs.declared.records.Op.{Op}
@@ -14,6 +14,7 @@ use Rattle.mi_core.specs.Kept.{Kept}
 use Rattle.mi_core.specs.State.{State}
 use Rattle.mi_core.proofs.ForkEvents.{get_either}
 use Rattle.mi_entries.specs.Actors.{Actor}
+use Rattle.mi_job.specs.declared.job.Job.{Job}
 use Rattle.mi_job.specs.Claims.{ClaimsNone}
 use Rattle.mi_legal.specs.Legal.{accepted_in}
 use Rattle.mi_solo.specs.Solos.{MayTurn}
@@ -22,7 +23,7 @@ use Rattle.mi_solo.specs.Viewing.{shown_to}
 use Rattle.mi_replay.specs.declared.seats.Seat.{Seat}
 use Rattle.mi_replay.specs.declared.splitters.SplitterSeat.{SplitterSeat}
 use Rattle.mi_replay.specs.InOrder.{round, rounds}
-use Rattle.mi_replay.specs.Seats.{IsEmpty, SeatAt, SeatWaits, UnderWay, WaitsAt, is_over}
+use Rattle.mi_replay.specs.Seats.{AsksAt, IsEmpty, SeatAt, SeatWaits, UnderWay, WaitsAt, is_over}
 use Rattle.mi_replay.specs.Splitters.{SplitterAt, SplitterWaits}
 use Rattle.mi_replay.specs.Tables.{AllOver, ItemsMade, Ran, TableWaits, beginning}
 use Rattle.mi_replay.specs.Turns.{Operations}
@@ -96,7 +97,7 @@ module _ (c : Configuration) (scripts : List (List Op)) where
     fits = fits;
     at = subst (λ o. WaitsAt o (view_in (beginning c scripts) j)) (sym h.none) (claims_first j lt);
     few = omega (arith, ap length h.empty);
-    left = λ some. absurd (some h.none);
+    asks = subst (AsksAt os (length a.replies.items)) (sym h.none) tt;
     room = omega (arith, h.room_is);
   }
 
@@ -165,6 +166,11 @@ all_over scripts seats n h le = λ j os a at_os at_a. h.each j os a (omega (arit
 pub none_under_way : {X : Type 0} (o : Option X) → is_some o ≡ false → o ≡ None
 none_under_way None e = refl
 none_under_way (Some x) e = absurd (false≢true (sym e))
+
+-- what is so of a session that is over
+pub over_parts : (o : Option Job) (n m : ℕ) → (is_none o && (n == m)) ≡ true → (o ≡ None) × (n ≡ m)
+over_parts None n m h = (refl, eqb-true n m h)
+over_parts (Some j) n m h = absurd (false≢true h)
 
 -- no items, and more items
 pub items_none : (scripts : List (List Op)) (s : State) (seats : List Seat) (x : SplitterSeat) → TableWaits scripts s seats x → ItemsMade scripts [] s seats x s seats x

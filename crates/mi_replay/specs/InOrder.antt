@@ -62,6 +62,7 @@ LeafIsHeld s a o = ⊥
 pub record IsHeldUp (script : List Op) (k : ℕ) (turns : List Turn) (t : State) : Type 0 where
   pub op : Op
   pub under_way : slice_get script (ended k turns) ≡ Some op
+  pub begun : busy k turns ≡ true
   pub held : ShardIsHeld t k op ⊎ LeafIsHeld t k op
 
 -- `K,COUNT`: so many turns; the first begins an operation where none is under way and some are left

@@ -5,6 +5,7 @@ pub mod Outcomes
 pub mod Rounds
 pub mod Seats
 pub mod Settling
+pub mod Spending
 pub mod Splitters
 pub mod Tables
 pub mod Turns

@@ -1,5 +1,5 @@
 -- A session while its script is run: where it stands after some turns, and what its own turns make of that.
-use Rattle.std.specs.Prelude.{◌≡◌, ◌≢◌, ◌<◌, ◌≤◌, ◌+◌, ◌==◌, ◌&&◌, ◌⊎◌, ℕ, Bool, true, false, List, [], ◌∷◌, ◌++◌, Option, Some, None, MatchOption, is_none, is_some, length, slice_get, vec_capacity}
+use Rattle.std.specs.Prelude.{◌≡◌, ◌≤◌, ◌+◌, ◌==◌, ◌&&◌, ◌⊎◌, ℕ, Bool, true, false, List, [], ◌∷◌, ◌++◌, Option, Some, None, MatchOption, is_none, is_some, length, slice_get, vec_capacity}
 use Rattle.mi_base.specs.declared.records.Op.{Op}
 use Rattle.mi_base.specs.Configuration.{Configuration, metric_space, space_of}
 use Rattle.mi_base.specs.History.{Entered}
@@ -41,17 +41,26 @@ abbrev pub IsNext : Space → List Op → Seat → Option Job → Job → Type 0
 IsNext space script a (Some j) old = old ≡ j
 IsNext space script a None old = (o : Op) × (slice_get script (length a.replies.items) ≡ Some o) × Begun old o (length a.replies.items + 1) space
 
+-- it is under way
+abbrev pub TakesUp : Space → List Op → Seat → Option Job → Type 0
+TakesUp space script a under = (j : Job) × (under ≡ Some j) × IsNext space script a a.job j
+
 -- a session waits for its next turn
 abbrev pub WaitsAt : Option Job → View → Type 0
 WaitsAt None v = ClaimsNone v
 WaitsAt (Some j) v = Ready j v
+
+-- an operation under way is this one of the script
+abbrev pub AsksAt : List Op → ℕ → Option Job → Type 0
+AsksAt script n None = Unit {0}
+AsksAt script n (Some j) = slice_get script n ≡ Some (asked j)
 
 pub record SeatWaits (s : State) (k : ℕ) (script : List Op) (a : Seat) : Type 0 where
   pub may : MayTurn s k
   pub fits : IsScriptOver (metric_space s.board.settings) script
   pub at : WaitsAt a.job (view_in s k)
   pub few : length a.replies.items ≤ length script
-  pub left : a.job ≢ None → length a.replies.items < length script
+  pub asks : AsksAt script (length a.replies.items) a.job
   pub room : length script ≤ vec_capacity a.replies
 
 -- a section may be made
@@ -60,10 +69,10 @@ pub record SeatReady (s : State) (k : ℕ) (script : List Op) (a : Seat) : Type 
   pub left : is_over script a ≡ false
 
 -- what a section leaves of the seat
-abbrev pub Leaves : Seat → JobTurn → Taken → Job → Seat → Type 0
-Leaves a job.More r new b = (r ≡ More) × (b.job ≡ Some new) × (b.replies.items ≡ a.replies.items)
-Leaves a job.Held r new b = (r ≡ Held) × (b.job ≡ Some new) × (b.replies.items ≡ a.replies.items)
-Leaves a (job.Done y) r new b = (r ≡ Ended) × (b.job ≡ None) × (b.replies.items ≡ a.replies.items ++ y ∷ [])
+abbrev pub Leaves : Seat → JobTurn → Taken → Option Job → Seat → Type 0
+Leaves a job.More r under b = (r ≡ More) × (b.job ≡ under) × (b.replies.items ≡ a.replies.items)
+Leaves a job.Held r under b = (r ≡ Held) × (b.job ≡ under) × (b.replies.items ≡ a.replies.items)
+Leaves a (job.Done y) r under b = (r ≡ Ended) × (b.job ≡ None) × (b.replies.items ≡ a.replies.items ++ y ∷ [])
 
 abbrev pub is_more : Taken → Bool
 is_more More = true
@@ -78,7 +87,7 @@ pub record SeatTurned (k : ℕ) (script : List Op) (s : State) (a : Seat) (r : T
   pub next : IsNext (space_of s.board.settings) script a a.job old
   pub turned : Turned old (view_in s k) answer new (view_in t k)
   pub moves : Moves s k t
-  pub leaves : Leaves a answer r new b
+  pub leaves : Leaves a answer r (Some new) b
   pub room : vec_capacity a.replies ≤ vec_capacity b.replies
 
 -- one turn: the session comes to it and makes one section

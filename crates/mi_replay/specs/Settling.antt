@@ -1,5 +1,6 @@
 -- The splitter goes on alone until all leaves are settled.
-use Rattle.std.specs.Prelude.{◌≡◌, ◌<◌, ◌≤◌, ◌||◌, ℕ, Bool, true, false, List, ◌++◌, Some, None, Result, Ok, Err, length, slice_get}
+use Rattle.std.specs.Prelude.{◌≡◌, ◌<◌, ◌||◌, ℕ, Bool, true, false, List, ◌++◌, Some, None, Result, Ok, Err, length, slice_get}
+use Rattle.std.specs.List.{list_any}
 use Rattle.mi_base.specs.declared.refusals.NoMemory.{NoMemory}
 use Rattle.mi_base.specs.History.{live, updates_of}
 use Rattle.mi_board.specs.Boards.{floor_of}
@@ -11,7 +12,7 @@ use Rattle.mi_replay.specs.declared.splitters.SplitterSeat.{SplitterSeat}
 use Rattle.mi_replay.specs.Entries.{IsTrimmed}
 use Rattle.mi_replay.specs.InOrder.{AllBy, IsIdle, entry_count}
 use Rattle.mi_replay.specs.Moving.{MakeCalls}
-use Rattle.mi_replay.specs.Splitters.{SplitterAt, SplitterMade}
+use Rattle.mi_replay.specs.Splitters.{SplitterAt, SplitterMade, gave_up}
 use Rattle.mi_replay.specs.Turns.{Turn, Chained}
 use Rattle.mi_solo.specs.Solos.{MayTurn}
 use Rattle.mi_solo.specs.States.{actor_in, view_in}
@@ -51,6 +52,8 @@ pub record Settles (a : ℕ) (s : State) (result : Result (Unit {0}) NoMemory) (
   pub grows : GrowsBySplits s.board.log t.board.log
   pub at : (turns : List Turn) (wanted : Bool) → SplitterAt turns s a (record { care = record { task = None }; wanted = wanted })
       → SplitterAt (turns ++ made) t a (record { care = record { task = None }; wanted = wanted || is_refused result })
+  -- it is refused where a split was given up for want of memory, and only there
+  pub why : is_refused result ≡ list_any (gave_up a false) made
   pub may : MayTurn t a
   pub claims : ClaimsNone (view_in t a)
   pub leaves : LeavesSettled result t
@@ -64,14 +67,17 @@ abbrev pub EndsIdle : Result (Unit {0}) NoMemory → ℕ → State → Type 0
 EndsIdle (Ok _) a t = IsIdle t.board × ((actor_in t a).floor ≡ floor_of t.board)
 EndsIdle (Err e) a t = Unit {0}
 
--- operations of the splitter until there was nothing to do, or memory was wanted
-pub record WorksOff (a : ℕ) (s : State) (result : Result (Unit {0}) NoMemory) (t : State) : Type 0 where
+-- operations of the splitter, one after another; the last one may have been given up for want of memory
+pub record Works (a : ℕ) (s : State) (short : Bool) (t : State) : Type 0 where
   pub made : List Turn
-  pub is : (wanted : Bool) → SplitterMade a s (resting wanted) t (resting (wanted || is_refused result)) made
+  pub is : (wanted : Bool) → SplitterMade a s (resting wanted) t (resting (wanted || short)) made
   pub grows : GrowsBySplits s.board.log t.board.log
   pub kept : Kept t
   pub rest : IsAtRest t
-  pub ends : EndsIdle result a t
+
+-- operations of the splitter until there was nothing to do, or memory was wanted
+abbrev pub WorksOff : ℕ → State → Result (Unit {0}) NoMemory → State → Type 0
+WorksOff a s result t = Works a s (is_refused result) t × EndsIdle result a t
 
 -- turns that trim leaf pages, with no operation under way
 pub record TrimsAll (a : ℕ) (s t : State) : Type 0 where
@@ -80,6 +86,7 @@ pub record TrimsAll (a : ℕ) (s t : State) : Type 0 where
   pub by : AllBy a made
   pub calls : MakeCalls made
   pub at : (turns : List Turn) (x : SplitterSeat) → SplitterAt turns s a x → SplitterAt (turns ++ made) t a x
+  pub gave : list_any (gave_up a false) made ≡ false
   pub board : t.board ≡ s.board
   pub may : MayTurn t a
   pub kept : Kept t

@@ -67,6 +67,7 @@ pub record SplitterMade (a : ℕ) (s : State) (x : SplitterSeat) (t : State) (y 
   pub chained : Chained s made t
   pub by : AllBy a made
   pub calls : MakeCalls made
+  pub gave : y.wanted ≡ (x.wanted || list_any (gave_up a false) made)
   pub at : (turns : List Turn) → SplitterAt turns s a x → SplitterAt (turns ++ made) t a y
   pub waits : SplitterWaits t a y
 

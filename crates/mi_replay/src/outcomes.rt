@@ -1,10 +1,11 @@
 //! What scripts after a schedule leave.
 ghost use Rattle.std.specs.Prelude.{◌≡◌, ◌<◌, ◌≤◌, ◌+◌, ◌||◌, ℕ, IfOk, false, length, map};
 ghost use Rattle.std.specs.List.{AllByRecursion, list_any};
+ghost use Rattle.mi_base.specs.declared.limits.TheConstants.{MAX_SESSIONS};
 ghost use Rattle.mi_base.specs.Configuration.{metric_space};
 ghost use Rattle.mi_base.specs.Scripts.{IsScriptOver};
-ghost use Rattle.mi_base.specs.Space.{IsMetric};
 ghost use Rattle.mi_legal.specs.Want.{has_memory, is_memory};
+ghost use Rattle.mi_legal.specs.Work.{AllTakeSteps};
 ghost use Rattle.mi_replay.specs.Outcomes.{IsLeftBy, Played, SameButSeen, lacks_page};
 ghost use Rattle.mi_replay.specs.Settling.{is_refused};
 ghost use Rattle.mi_replay.specs.Tables.{IsItemOver, IsOver, Waits};
@@ -39,19 +40,18 @@ pub fn replay<M: Metric>(
     schedule: &Schedule,
 ) -> Result<Outcome, NoMemory>
     requires space { M.space metric.now ≡ metric_space settings.now }
-    requires metric { IsMetric (metric_space settings.now) }
     requires pivots { pivots.now ≡ settings.now.pivots }
-    requires few { length scripts.now ≤ 16 }
+    requires few { length scripts.now ≤ MAX_SESSIONS }
     requires scripts { AllByRecursion (IsScriptOver (metric_space settings.now)) scripts.now }
     requires schedule { AllByRecursion (IsItemOver (length scripts.now)) schedule.now }
     ensures { IfOk result (Played settings.now scripts.now schedule.now) }
 {
     let blank = Blank::new(1);
-    replay_with::<M, Brand>(alloc, settings, metric, pivots, scripts, schedule, blank)
+    counted::<M, Brand>(alloc, settings, metric, pivots, scripts, schedule, blank)
 }
 
 /// The same with the counter of steps that this blank opens.
-fn replay_with<M: Metric, L: Ledger>(
+fn counted<M: Metric, L: Ledger>(
     alloc: Global,
     settings: &Settings,
     metric: &M,
@@ -64,23 +64,43 @@ fn replay_with<M: Metric, L: Ledger>(
     requires parts { blank.parts ≡ L.parts }
     requires some { 0 < blank.parts }
     requires space { M.space metric.now ≡ metric_space settings.now }
-    requires metric { IsMetric (metric_space settings.now) }
     requires pivots { pivots.now ≡ settings.now.pivots }
-    requires few { length scripts.now ≤ 16 }
+    requires few { length scripts.now ≤ MAX_SESSIONS }
     requires scripts { AllByRecursion (IsScriptOver (metric_space settings.now)) scripts.now }
     requires schedule { AllByRecursion (IsItemOver (length scripts.now)) schedule.now }
     ensures { IfOk result (Played settings.now scripts.now schedule.now) }
 {
     let mut steps = Steps::<L>::new(blank);
-    let table = finished(
+    replay_with(
         alloc, settings, metric, pivots, scripts, schedule, &mut steps,
-    )?;
+    )
+}
+
+/// The same with the caller's counter, which is left as many steps further as the replies tell.
+pub fn replay_with<M: Metric, L: Ledger>(
+    alloc: Global,
+    settings: &Settings,
+    metric: &M,
+    pivots: &Pivots,
+    scripts: &[Script],
+    schedule: &Schedule,
+    steps: &mut Steps<L>,
+) -> Result<Outcome, NoMemory>
+    requires space { M.space metric.now ≡ metric_space settings.now }
+    requires pivots { pivots.now ≡ settings.now.pivots }
+    requires few { length scripts.now ≤ MAX_SESSIONS }
+    requires scripts { AllByRecursion (IsScriptOver (metric_space settings.now)) scripts.now }
+    requires schedule { AllByRecursion (IsItemOver (length scripts.now)) schedule.now }
+    ensures played { IfOk result (Played settings.now scripts.now schedule.now) }
+    ensures steps { IfOk result (λ o. AllTakeSteps settings.now o.log scripts.now o.replies steps.old steps.new) }
+{
+    let table = finished(alloc, settings, metric, pivots, scripts, schedule, steps)?;
     outcome(alloc, table, scripts, settings.pages)
 }
 
 /// The outcome where all scripts have ended: the splitter settles all leaves first.
 fn outcome(alloc: Global, table: Table, scripts: &[Script], pages: u32) -> Result<Outcome, NoMemory>
-    requires few { length scripts.now ≤ 16 }
+    requires few { length scripts.now ≤ MAX_SESSIONS }
     requires waits { Waits scripts.now table }
     requires over { IsOver scripts.now table }
     ensures { IfOk result (IsLeftBy (length scripts.now) pages table) }

@@ -1,9 +1,11 @@
 //! What is kept of a session while its script is run, and its turns.
-ghost use Rattle.std.specs.Prelude.{◌≡◌, ◌<◌, ◌≤◌, [], IfOk, IsTrue, None, Some, length, vec_capacity};
+ghost use Rattle.std.specs.Prelude.{◌≡◌, ◌<◌, ◌≤◌, ◌+◌, [], IfOk, IsTrue, None, Some, length, vec_capacity};
 ghost use Rattle.std.specs.List.{AllByRecursion};
+ghost use Rattle.mi_base.specs.declared.limits.TheConstants.{MAX_LEVELS};
 ghost use Rattle.mi_base.specs.Configuration.{metric_space};
 ghost use Rattle.mi_base.specs.Scripts.{IsScriptOver};
-ghost use Rattle.mi_replay.specs.Seats.{IsEmpty, IsNext, Leaves, OperationMade, SeatReady, SeatTurned, SeatWaits, TurnMade, TurnsMade, is_more, is_over};
+ghost use Rattle.mi_replay.specs.Spending.{SeatSpends, measured_from};
+ghost use Rattle.mi_replay.specs.Seats.{IsEmpty, Leaves, OperationMade, SeatReady, SeatTurned, SeatWaits, TakesUp, TurnMade, TurnsMade, is_more, is_over};
 
 use mi_base::{NoMemory, Replies, Reply, Script, Steps};
 use mi_job::{Job, JobTurn};
@@ -78,9 +80,10 @@ impl Seat {
     )
         requires space { M.space metric.now ≡ metric_space solo.old.state.board.settings }
         requires pivots { pivots.now ≡ solo.old.state.board.settings.pivots }
-        requires levels { solo.old.state.board.settings.levels ≤ 6 }
+        requires levels { solo.old.state.board.settings.levels ≤ MAX_LEVELS }
         requires waits { SeatWaits solo.old.state actor script.now self.old }
-        ensures { OperationMade actor script.now solo.old.state self.old solo.new.state self.new }
+        ensures made { OperationMade actor script.now solo.old.state self.old solo.new.state self.new }
+        ensures spends { SeatSpends actor script.now solo.old.state self.old steps.old solo.new.state self.new steps.new }
     {
         if self.is_over(script) {
             return;
@@ -106,10 +109,11 @@ impl Seat {
     )
         requires space { M.space metric.now ≡ metric_space solo.old.state.board.settings }
         requires pivots { pivots.now ≡ solo.old.state.board.settings.pivots }
-        requires levels { solo.old.state.board.settings.levels ≤ 6 }
+        requires levels { solo.old.state.board.settings.levels ≤ MAX_LEVELS }
         requires waits { SeatWaits solo.old.state actor script.now self.old }
         requires some { 1 ≤ count }
-        ensures { TurnsMade actor script.now solo.old.state self.old count solo.new.state self.new }
+        ensures made { TurnsMade actor script.now solo.old.state self.old count solo.new.state self.new }
+        ensures spends { SeatSpends actor script.now solo.old.state self.old steps.old solo.new.state self.new steps.new }
     {
         let mut left = count;
         while left > 0 && !self.is_over(script) {
@@ -136,6 +140,7 @@ impl Seat {
         requires pivots { pivots.now ≡ solo.old.state.board.settings.pivots }
         requires ready { SeatReady solo.old.state actor script.now self.old }
         ensures made { TurnMade actor script.now solo.old.state self.old result self.new solo.new.state }
+        ensures spends { SeatSpends actor script.now solo.old.state self.old steps.old solo.new.state self.new steps.new }
         ensures waits { SeatWaits solo.new.state actor script.now self.new }
     {
         solo.turn_to(actor);
@@ -159,63 +164,55 @@ impl Seat {
         requires pivots { pivots.now ≡ solo.old.state.board.settings.pivots }
         requires ready { SeatReady solo.old.state solo.old.turn script.now self.old }
         ensures turned { SeatTurned solo.old.turn script.now solo.old.state self.old result self.new solo.new.state }
+        ensures spends { SeatSpends solo.old.turn script.now solo.old.state self.old steps.old solo.new.state self.new steps.new }
         ensures turn { solo.new.turn ≡ solo.old.turn }
     {
         // That the settings are within their limits is known of a core that is read.
         solo.log();
-        let mut job = self.next(script, metric, pivots, steps);
+        self.take_up(script, metric, pivots, steps);
+        let Some(job) = &mut self.job else {
+            unreachable!()
+        };
         let answer = job.step(alloc, solo, metric, pivots, steps);
-        self.leave(job, answer)
+        self.leave(answer)
     }
 
     /// What an answer leaves: the operation is under way still, or its reply is kept.
-    fn leave(&mut self, job: Job, answer: JobTurn) -> Taken
-        requires none { self.old.job ≡ None }
+    fn leave(&mut self, answer: JobTurn) -> Taken
         requires room { length self.old.replies.items < vec_capacity self.old.replies }
-        ensures leaves { Leaves self.old answer result job self.new }
+        ensures leaves { Leaves self.old answer result self.old.job self.new }
         ensures room { vec_capacity self.old.replies ≤ vec_capacity self.new.replies }
     {
         match answer {
-            JobTurn::More => self.keep(job, Taken::More),
-            JobTurn::Held => self.keep(job, Taken::Held),
+            JobTurn::More => Taken::More,
+            JobTurn::Held => Taken::Held,
             JobTurn::Done { reply } => {
+                self.job = None;
                 self.replies.push(reply).unwrap();
                 Taken::Ended
             }
         }
     }
 
-    /// The operation stays under way.
-    fn keep(&mut self, job: Job, taken: Taken) -> Taken
-        ensures job { self.new.job ≡ Some job }
-        ensures same { self.new.replies ≡ self.old.replies }
-        ensures taken { result ≡ taken }
-    {
-        self.job = Some(job);
-        taken
-    }
-
-    /// The operation whose section is next, taken out.
-    fn next<M: Metric, L: Ledger>(
+    /// The operation whose section is next is under way: the next one of the script where none is.
+    fn take_up<M: Metric, L: Ledger>(
         &mut self,
         script: &Script,
         metric: &M,
         pivots: &Pivots,
         steps: &mut Steps<L>,
-    ) -> Job
+    )
         requires fits { IsScriptOver (M.space metric.now) script.now }
         requires pivots { AllByRecursion (λ p. IsTrue ((M.space metric.now).fits p)) pivots.now }
         requires left { length self.old.replies.items < length script.now }
-        ensures next { IsNext (record { metric = M.space metric.now; pivots = pivots.now }) script.now self.old self.old.job result }
-        ensures none { self.new.job ≡ None }
+        ensures next { TakesUp (record { metric = M.space metric.now; pivots = pivots.now }) script.now self.old self.new.job }
+        ensures steps { steps.new ≡ steps.old + measured_from self.old.job self.new.job pivots.now }
         ensures same { self.new.replies ≡ self.old.replies }
     {
-        match self.job.take() {
-            Some(job) => job,
-            None => {
-                let place = self.replies.len();
-                Job::new(script.at(place), place as u32 + 1, metric, pivots, steps)
-            }
+        if self.job.is_none() {
+            let place = self.replies.len();
+            let job = Job::new(script.at(place), place as u32 + 1, metric, pivots, steps);
+            self.job = Some(job);
         }
     }
 }

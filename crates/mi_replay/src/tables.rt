@@ -1,6 +1,7 @@
 //! All sessions and the splitter at one core.
 ghost use Rattle.std.specs.Prelude.{◌≡◌, ◌<◌, ◌≤◌, ◌∷◌, [], IfOk, true, false, length};
 ghost use Rattle.std.specs.List.{AllByRecursion};
+ghost use Rattle.mi_base.specs.declared.limits.TheConstants.{MAX_SESSIONS};
 ghost use Rattle.mi_base.specs.declared.records.Actor.TheVariants.{Session, Splitter};
 ghost use Rattle.mi_base.specs.declared.records.Take.TheVariants.{Operation, Turns};
 ghost use Rattle.mi_base.specs.Configuration.{metric_space};
@@ -8,6 +9,7 @@ ghost use Rattle.mi_base.specs.Scripts.{IsScriptOver};
 ghost use Rattle.mi_base.specs.Space.{IsMetric};
 ghost use Rattle.mi_replay.specs.InOrder.{round};
 ghost use Rattle.mi_replay.specs.Rounds.{EasesAll, RelievesOne, Rests};
+ghost use Rattle.mi_replay.specs.Spending.{Spends, SpendsNone};
 ghost use Rattle.mi_replay.specs.Tables.{HasRun, IsItemOver, IsNotOver, IsOver, Makes, MakesOne};
 ghost use Rattle.mi_replay.specs.Tables.{TakeIsOver, Waits, settings_of};
 
@@ -32,7 +34,7 @@ impl Table {
     /// Nothing was done. Room for all replies is taken.
     pub fn open(alloc: Global, settings: &Settings, scripts: &[Script]) -> Result<Table, NoMemory>
         requires metric { IsMetric (metric_space settings.now) }
-        requires few { length scripts.now ≤ 16 }
+        requires few { length scripts.now ≤ MAX_SESSIONS }
         requires scripts { AllByRecursion (IsScriptOver (metric_space settings.now)) scripts.now }
         ensures { IfOk result (HasRun settings.now scripts.now []) }
     {
@@ -79,9 +81,10 @@ impl Table {
         requires space { M.space metric.now ≡ metric_space (settings_of self.old) }
         requires pivots { pivots.now ≡ (settings_of self.old).pivots }
         requires waits { Waits scripts.now self.old }
-        requires few { length scripts.now ≤ 16 }
+        requires few { length scripts.now ≤ MAX_SESSIONS }
         ensures made { Makes scripts.now (round (length scripts.now)) self.old self.new }
         ensures eases { EasesAll scripts.now self.old self.new }
+        ensures spends { Spends scripts.now self.old steps.old self.new steps.new }
     {
         for number in 0..scripts.len() as u32 {
             self.session_operation(alloc, scripts, number, metric, pivots, steps);
@@ -102,9 +105,10 @@ impl Table {
         requires space { M.space metric.now ≡ metric_space (settings_of self.old) }
         requires pivots { pivots.now ≡ (settings_of self.old).pivots }
         requires waits { Waits scripts.now self.old }
-        requires few { length scripts.now ≤ 16 }
+        requires few { length scripts.now ≤ MAX_SESSIONS }
         requires item { IsItemOver (length scripts.now) item }
-        ensures { Makes scripts.now (item ∷ []) self.old self.new }
+        ensures made { Makes scripts.now (item ∷ []) self.old self.new }
+        ensures spends { Spends scripts.now self.old steps.old self.new steps.new }
     {
         match item.actor {
             Actor::Session { number } => {
@@ -130,7 +134,8 @@ impl Table {
         requires waits { Waits scripts.now self.old }
         requires there { number < length scripts.now }
         requires some { TakeIsOver take }
-        ensures { MakesOne scripts.now (Session number) take self.old self.new }
+        ensures made { MakesOne scripts.now (Session number) take self.old self.new }
+        ensures spends { Spends scripts.now self.old steps.old self.new steps.new }
     {
         match take {
             Take::Turns { count } => {
@@ -157,7 +162,8 @@ impl Table {
         requires waits { Waits scripts.now self.old }
         requires there { number < length scripts.now }
         requires some { 1 ≤ count }
-        ensures { MakesOne scripts.now (Session number) (Turns count) self.old self.new }
+        ensures made { MakesOne scripts.now (Session number) (Turns count) self.old self.new }
+        ensures spends { Spends scripts.now self.old steps.old self.new steps.new }
     {
         let script = &scripts[number as usize];
         let seat = &mut self.seats[number as usize];
@@ -181,6 +187,7 @@ impl Table {
         ensures made { MakesOne scripts.now (Session number) Operation self.old self.new }
         ensures relieved { RelievesOne scripts.now number self.old self.new }
         ensures splitter { self.new.splitter ≡ self.old.splitter }
+        ensures spends { Spends scripts.now self.old steps.old self.new steps.new }
     {
         let script = &scripts[number as usize];
         let seat = &mut self.seats[number as usize];
@@ -191,9 +198,10 @@ impl Table {
     /// The same of the splitter.
     fn splitter(&mut self, alloc: Global, scripts: &[Script], take: Take)
         requires waits { Waits scripts.now self.old }
-        requires few { length scripts.now ≤ 16 }
+        requires few { length scripts.now ≤ MAX_SESSIONS }
         requires some { TakeIsOver take }
-        ensures { MakesOne scripts.now Splitter take self.old self.new }
+        ensures made { MakesOne scripts.now Splitter take self.old self.new }
+        ensures spends { SpendsNone scripts.now self.old self.new }
     {
         match take {
             Take::Turns { count } => {
@@ -206,10 +214,11 @@ impl Table {
 
     fn splitter_operation(&mut self, alloc: Global, scripts: &[Script])
         requires waits { Waits scripts.now self.old }
-        requires few { length scripts.now ≤ 16 }
+        requires few { length scripts.now ≤ MAX_SESSIONS }
         ensures made { MakesOne scripts.now Splitter Operation self.old self.new }
         ensures rested { Rests (length scripts.now) self.old self.new }
         ensures same { self.new.seats.items ≡ self.old.seats.items }
+        ensures spends { SpendsNone scripts.now self.old self.new }
     {
         let actor = scripts.len() as u32;
         self.splitter.operation(alloc, &mut self.solo, actor);

@@ -1,4 +1,4 @@
 use Rattle.mi_replay.proofs.outcomes.replay.Given as goal
 
-abbrev pub ghosts-replay_with : goal.ghosts-replay_with
-ghosts-replay_with g a = record { name = a.blank.name; parts = a.blank.parts }
+abbrev pub ghosts-counted : goal.ghosts-counted
+ghosts-counted g a = record { name = a.blank.name; parts = a.blank.parts }

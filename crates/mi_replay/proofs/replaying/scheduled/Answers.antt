@@ -4,9 +4,22 @@ use Rattle.std.proofs.lemmas.List.{take_all, take_more}
 use Rattle.std.proofs.lemmas.Option.{get_or_from_slice_get, slice_get_within}
 use Rattle.mi_base.specs.declared.records.ScheduleItem.{ScheduleItem}
 use Rattle.mi_base.specs.Configuration.{Configuration, metric_space}
+use Rattle.mi_base.specs.Space.{IsMetric}
 use Rattle.mi_replay.specs.Tables.{IsItemOver, Ran}
+use Rattle.mi_replay.proofs.SpendingTables.{spent_none}
 use Rattle.mi_replay.proofs.TableOpening.{all_at}
 use Rattle.mi_replay.proofs.replaying.scheduled.Goals as goal
+
+pub open-requires-clause-metric : goal.open-requires-clause-metric
+open-requires-clause-metric g c = subst IsMetric c.requires.space (g.met.M.Metric.laws c.args.metric.now)
+
+pub loop-place-init : goal.loop-place-init
+loop-place-init g c =
+    let t = c.in_ok-table.table in
+    record {
+      ran = c.in_ok-table.ensures;
+      spent = spent_none c.args.settings.now c.args.scripts.now t.solo.state t.seats.items t.splitter c.in_ok-table.ensures c.args.steps.now;
+    }
 
 pub item-requires-clause-space : goal.item-requires-clause-space
 item-requires-clause-space g c = c.requires.space ∙ ap metric_space (sym c.loop-place.invariant.ran.at.settings)
@@ -27,11 +40,12 @@ loop-place-preserved g c =
     let t = c.item.new.self in
     record {
       ran = subst (λ (is : List ScheduleItem). Ran c.args.settings.now c.args.scripts.now is t.solo.state t.seats.items t.splitter) (sym more)
-          (c.item.ensures.on c.args.settings.now (take l.place xs) l.invariant.ran);
+          (c.item.ensures.made.on c.args.settings.now (take l.place xs) l.invariant.ran);
+      spent = c.item.ensures.spends c.args.steps.now l.invariant.spent;
     }
 
-pub returns : goal.returns
-returns g c =
+pub returns-clause-run : goal.returns-clause-run
+returns-clause-run g c =
     let xs = c.args.schedule.now in
     let t = c.loop-place.table in
     let all : take c.loop-place.place xs ≡ xs = take_all c.loop-place.place xs (omega (arith, c.loop-place-test.false, c.len-place-end.ensures)) in

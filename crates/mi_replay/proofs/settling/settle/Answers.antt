@@ -1,4 +1,4 @@
-use Rattle.std.proofs.Common.{◌≡◌, ℕ, false, Ok, Err, Result, subst, sym}
+use Rattle.std.proofs.Common.{ℕ, false, Ok, Err, Result, subst, sym}
 use Rattle.std.proofs.lemmas.Result.{err_from_is_err_and}
 use Rattle.mi_base.specs.declared.refusals.NoMemory.{NoMemory}
 use Rattle.mi_replay.specs.Settling.{Settles, WorksOff}
@@ -14,14 +14,14 @@ returns-in_err-work_off c =
     record { settles = subst (λ (r : Result (Unit {0}) NoMemory). Settles c.args.solo.now.turn s r t) (sym p.1) (subst (λ (n : ℕ). Settles n s (Err p.0) t) c.actor-actor.ensures (settles_short c.actor-actor.result s t p.0 w)) }
 
 pub trim_all-requires-clause-may : goal.trim_all-requires-clause-may
-trim_all-requires-clause-may c = (c.work_off.ensures.is false).waits.may
+trim_all-requires-clause-may c = (c.work_off.ensures.0.is false).waits.may
 
 pub trim_all-requires-clause-floor : goal.trim_all-requires-clause-floor
 trim_all-requires-clause-floor c =
     let s = c.args.solo.now.state in
     let t = c.work_off.new.solo.state in
     let w = subst (λ (r : Result (Unit {0}) NoMemory). WorksOff c.actor-actor.result s r t) c.in_ok-work_off.was c.work_off.ensures in
-    floor_whole c.actor-actor.result t w.kept w.rest w.ends.1
+    floor_whole c.actor-actor.result t w.0.kept w.0.rest w.1.1
 
 pub returns : goal.returns
 returns c =

@@ -1,8 +1,8 @@
-use Rattle.std.proofs.Common.{◌≡◌, ℕ, ◌<◌, Option, Some, None, subst, sym}
+use Rattle.std.proofs.Common.{ℕ, ◌<◌, Option, subst, sym}
 use Rattle.mi_solo.specs.Sections.{Trims}
 use Rattle.mi_world.specs.declared.answers.Visit.TheVariants.{Read}
 use Rattle.mi_replay.specs.Entries.{pages_from}
-use Rattle.mi_replay.proofs.SettlingLemmas.{Trimming, is_named, may_see, none_left, trimmed_all, trimming_falls, trimming_first, trimming_on}
+use Rattle.mi_replay.proofs.SettlingLemmas.{Trimming, none_left, trimmed_all, trimming_falls, trimming_first, trimming_on}
 use Rattle.mi_replay.proofs.settling.trim_all.Goals as goal
 
 pub loop-next-init : goal.loop-next-init

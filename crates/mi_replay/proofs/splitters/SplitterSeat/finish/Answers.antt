@@ -1,4 +1,4 @@
-use Rattle.std.proofs.Common.{◌≡◌, subst, sym, ◌∙◌}
+use Rattle.std.proofs.Common.{subst, sym, ◌∙◌}
 use Rattle.std.proofs.lemmas.Bool.{false≢true}
 use Rattle.mi_job.specs.declared.care.CareTurn.{CareTurn}
 use Rattle.mi_replay.proofs.SplitterTurns.{Taken, sets_out, taken_then, waits_then, way_ends, way_falls, way_on}

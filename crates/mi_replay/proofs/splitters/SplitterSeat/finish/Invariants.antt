@@ -1,6 +1,5 @@
-use Rattle.std.proofs.Common.{◌≡◌, ◌+◌, ◌*◌}
+use Rattle.std.proofs.Common.{◌+◌, ◌*◌}
 use Rattle.mi_blink.specs.Descents.{budget}
-use Rattle.mi_core.specs.Kept.{Kept}
 use Rattle.mi_job.specs.Caring.{left}
 use Rattle.mi_solo.specs.States.{view_in}
 use Rattle.mi_split.specs.Splitting.{split_most}

@@ -17,6 +17,7 @@ loop-number-init g c =
     record {
       made = items_none c.args.scripts.now t.solo.state t.seats.items t.splitter c.requires.waits;
       eased = eased_none c.args.scripts.now t.solo.state t.seats.items;
+      spends = λ first was. was;
     }
 
 pub session_operation-requires-clause-space : goal.session_operation-requires-clause-space
@@ -38,6 +39,7 @@ loop-number-preserved g c =
           (items_more scripts (operations_of n) (record { actor = Session n; take = Operation } ∷ []) first.solo.state m.solo.state t.solo.state first.seats.items m.seats.items t.seats.items first.splitter m.splitter t.splitter
           c.loop-number.invariant.made c.session_operation.ensures.made);
       eased = eased_more scripts n first.solo.state first.seats.items m.solo.state m.seats.items t.solo.state t.seats.items c.loop-number.invariant.eased c.session_operation.ensures.relieved;
+      spends = λ first was. c.session_operation.ensures.spends first (c.loop-number.invariant.spends first was);
     }
 
 pub returns-clause-made : goal.returns-clause-made
@@ -64,3 +66,6 @@ returns-clause-eases g c =
     let done : Eases scripts first.solo.state first.seats.items first.splitter t.solo.state m.seats.items t.splitter =
     eases scripts first.solo.state first.seats.items m.seats.items first.splitter m.solo.state t.solo.state t.splitter c.requires.waits.count c.splitter_operation.ensures.made.waits.actors eased c.splitter_operation.ensures.rested in
     subst (λ (x : List Seat). Eases scripts first.solo.state first.seats.items first.splitter t.solo.state x t.splitter) (sym c.splitter_operation.ensures.same) done
+
+pub returns-clause-spends : goal.returns-clause-spends
+returns-clause-spends g c = λ first was. c.splitter_operation.ensures.spends c.loop-number.steps first (c.loop-number.invariant.spends first was)
