@@ -1,4 +1,5 @@
-//! An exact similarity index in memory: replays scripts of updates and queries.
+//! An exact similarity index in memory: replays scripts of updates and queries, proposes pivots, and
+//! makes workloads.
 #![tactic(auto)]
 
 ghost use Rattle.std.specs.Prelude.{map};

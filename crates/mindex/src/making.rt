@@ -1,10 +1,9 @@
 //! The command that makes a workload from a number, replays it and tells its figures.
 ghost use Rattle.std.specs.Prelude.{◌≡◌, IfOk, Some, map};
 ghost use Rattle.std.specs.String.{string_bytes};
-ghost use Rattle.mindex.specs.Calls.{transcript_status};
 ghost use Rattle.mindex.specs.Making.{IsOutcomeOf, Made, MakeAnswered, MakeCompletes, seed_in};
 
-use crate::replaying::ended;
+use crate::replaying::{ended, status_of};
 use crate::statuses::Status;
 use crate::texts::{send_memory, send_usage};
 use mi_base::NoMemory;
@@ -34,16 +33,6 @@ fn outcome_of(alloc: Global, seed: u64) -> Result<Outcome, NoMemory>
         workload.scripts.as_slice(),
         &workload.schedule,
     )
-}
-
-fn status_of(outcome: &Outcome) -> Status
-    ensures { result ≡ transcript_status outcome.now.short }
-{
-    if outcome.short {
-        Status::Short
-    } else {
-        Status::Done
-    }
 }
 
 /// Replays the workload of a number, and sends what comes of it: its figures, or the line of want of memory.

@@ -4,6 +4,7 @@ ghost use Rattle.std.specs.String.{string_bytes};
 ghost use Rattle.mi_outside.specs.Outside.{KeepsContents};
 ghost use Rattle.mi_replay.specs.Outcomes.{Played};
 ghost use Rattle.mindex.specs.Calls.{Answered, Answers, Completes, Ends, Replayed, Says};
+ghost use Rattle.mindex.specs.Calls.{transcript_status};
 ghost use Rattle.mindex.specs.Inputs.{names_in};
 ghost use Rattle.mindex.specs.Loading.{MayRun, inputs_in, stop_line, stop_status};
 
@@ -30,6 +31,17 @@ pub fn ended(said: Status, sent: Result<(), SinkFailed>) -> Status
     }
 }
 
+/// The status of a text that tells this outcome, where it was sent whole.
+pub fn status_of(outcome: &Outcome) -> Status
+    ensures { result ≡ transcript_status outcome.now.short }
+{
+    if outcome.short {
+        Status::Short
+    } else {
+        Status::Done
+    }
+}
+
 /// Runs the scripts after the schedule.
 fn play(alloc: Global, inputs: &Loaded) -> Result<Outcome, NoMemory>
     requires { MayRun inputs.now }
@@ -53,15 +65,8 @@ fn replay_inputs<S: Sink>(alloc: Global, inputs: &Loaded, out: &mut S) -> Status
     ensures { Replayed (inputs_in inputs.now) (S.state out.old) (S.state out.new) result }
 {
     match play(alloc, inputs) {
-        Ok(outcome) => {
-            let said = if outcome.short {
-                Status::Short
-            } else {
-                Status::Done
-            };
-            ended(said, render(&outcome, out))
-        }
-        Err(_) => ended(Status::NoMemory, send_memory(out)),
+        Ok(outcome) => ended(status_of(&outcome), render(&outcome, out)),
+        Err(NoMemory) => ended(Status::NoMemory, send_memory(out)),
     }
 }
 

@@ -5,7 +5,7 @@ ghost use Rattle.mindex.specs.Statuses.{status_number};
 /// How a call ended.
 #[derive(Clone, Copy, Debug, PartialEq, Eq)]
 pub enum Status {
-    /// The whole transcript was written, and nothing is missing from it for want of memory.
+    /// The whole text was written, and nothing is missing from it for want of memory.
     Done,
     /// The words are none of the forms.
     Usage,
@@ -17,7 +17,7 @@ pub enum Status {
     Unread,
     /// A text could not be written whole.
     Unwritten,
-    /// The whole transcript was written, and something is missing from it for want of memory.
+    /// The whole text was written, and something is missing from it for want of memory.
     Short,
     /// Memory was wanted before there was a whole outcome.
     NoMemory,

@@ -4,9 +4,9 @@ mod choices;
 mod makes;
 mod nearest;
 mod queries;
+mod scans;
 mod schedules;
 mod sessions;
-mod workloads;
 
 use crate::adapters::{RealFiles, RealOut};
 use crate::mindex;
@@ -14,7 +14,6 @@ use crate::replaying::replay_call;
 use mi_base::MAX_FILE_SIZE;
 use mi_outside::{Files, MemoryFiles, MemorySink, OpenGate, Sink, SteadyFiles, SteadySink};
 use std::alloc::Global;
-use std::collections::BTreeMap;
 use std::process::{self, Abort};
 use std::test::Fail;
 use std::{env, fs};
@@ -65,8 +64,8 @@ pub fn text_of_call(
     Ok((status, out))
 }
 
-/// Settings, script and transcript: no operation, refused deletes and inserts, a full log, and leaves that are split.
-static TRANSCRIPTS: [(&[u8], &str, &str); 6] = [
+/// Settings, script and transcript.
+static TRANSCRIPTS: [(&[u8], &str, &str); 17] = [
     // under L1 without pivots
     (
         PLANE,
@@ -100,68 +99,64 @@ static TRANSCRIPTS: [(&[u8], &str, &str); 6] = [
         "insert,1,1\ninsert,2,2\ninsert,3,3\nrange,5,2\ndelete,2\nrange,1,2\n",
         "session,0\nstored,1\nstored,2\nstored,3\nrange,3,1,3,1,5\n0,2\n1,1\n1,3\nremoved,4\nrange,4,1,2,1,4\n1,1\n1,3\nhistory,4,1\ninsert,0,1,1,1\ninsert,0,2,2,2\ninsert,0,3,3,3\nsplit,0\ndelete,0,5,2\ncells,2\n0.1,2\n1,0\nentries,2\npages,1,40\n",
     ),
-];
-
-/// Settings, script and the lines of the replies, up to the history.
-static REPLIES: [(&[u8], &str, &str); 11] = [
-    // under L1 without pivots
+    // queries: under L1 without pivots
     (
         PLANE,
         "insert,7,0,0\ninsert,9,3,4\nrange,6,0,0\n",
-        "session,0\nstored,1\nstored,2\nrange,2,0,1,1,2\n0,7\nhistory,",
+        "session,0\nstored,1\nstored,2\nrange,2,0,1,1,2\n0,7\nhistory,2,0\ninsert,0,1,7,0,0\ninsert,0,2,9,3,4\ncells,1\n-,2\nentries,2\npages,1,4\n",
     ),
     (
         PLANE,
         "range,5,0,0\ninsert,7,0,0\nrange,0,0,0\n",
-        "session,0\nrange,0,0,0,0,0\nstored,1\nrange,1,0,1,1,1\n0,7\nhistory,",
+        "session,0\nrange,0,0,0,0,0\nstored,1\nrange,1,0,1,1,1\n0,7\nhistory,1,0\ninsert,0,2,7,0,0\ncells,1\n-,1\nentries,1\npages,1,4\n",
     ),
     (
         PLANE,
         "insert,7,0,0\ninsert,7,1,1\nrange,0,0,0\n",
-        "session,0\nstored,1\npresent,1,0\nrange,1,0,1,1,1\n0,7\nhistory,",
+        "session,0\nstored,1\npresent,1,0\nrange,1,0,1,1,1\n0,7\nhistory,1,0\ninsert,0,1,7,0,0\ncells,1\n-,1\nentries,1\npages,1,4\n",
     ),
     (
         PLANE,
         "\"insert\",7,+0,-00\r\n\r\nrange,2147483647,1,1",
-        "session,0\nstored,1\nrange,1,0,1,1,1\n2,7\nhistory,",
+        "session,0\nstored,1\nrange,1,0,1,1,1\n2,7\nhistory,1,0\ninsert,0,1,7,0,0\ncells,1\n-,1\nentries,1\npages,1,4\n",
     ),
     (
         PLANE,
         "insert,3,0,-1\ninsert,1,-1,0\nrange,1,0,0\n",
-        "session,0\nstored,1\nstored,2\nrange,2,0,2,1,2\n1,1\n1,3\nhistory,",
+        "session,0\nstored,1\nstored,2\nrange,2,0,2,1,2\n1,1\n1,3\nhistory,2,0\ninsert,0,1,3,0,-1\ninsert,0,2,1,-1,0\ncells,1\n-,2\nentries,2\npages,1,4\n",
     ),
     // under the other metrics
     (
         b"metric,max\ndims,2\nlevels,0\ncell,4\nupdates,8\npages,4\n",
         "insert,7,0,0\ninsert,9,3,4\nrange,4,0,0\n",
-        "session,0\nstored,1\nstored,2\nrange,2,0,2,1,2\n0,7\n4,9\nhistory,",
+        "session,0\nstored,1\nstored,2\nrange,2,0,2,1,2\n0,7\n4,9\nhistory,2,0\ninsert,0,1,7,0,0\ninsert,0,2,9,3,4\ncells,1\n-,2\nentries,2\npages,1,4\n",
     ),
     (
         b"metric,hamming\ndims,2\nlevels,0\ncell,4\nupdates,8\npages,4\n",
         "insert,7,0,0\ninsert,9,3,4\nrange,1,0,0\n",
-        "session,0\nstored,1\nstored,2\nrange,2,0,1,1,2\n0,7\nhistory,",
+        "session,0\nstored,1\nstored,2\nrange,2,0,1,1,2\n0,7\nhistory,2,0\ninsert,0,1,7,0,0\ninsert,0,2,9,3,4\ncells,1\n-,2\nentries,2\npages,1,4\n",
     ),
     (
         b"metric,table\ndims,1\nrow,0,1,2\nrow,1,0,1\nrow,2,1,0\nlevels,0\ncell,4\nupdates,8\npages,4\n",
         "insert,1,0\ninsert,2,2\nrange,1,1\n",
-        "session,0\nstored,1\nstored,2\nrange,2,0,2,1,2\n1,1\n1,2\nhistory,",
+        "session,0\nstored,1\nstored,2\nrange,2,0,2,1,2\n1,1\n1,2\nhistory,2,0\ninsert,0,1,1,0\ninsert,0,2,2,2\ncells,1\n-,2\nentries,2\npages,1,4\n",
     ),
-    // leaves that are empty, and that are split
+    // an object as far from one pivot as from the other
     (
         b"metric,l1\ndims,1\npivot,0\npivot,10\nlevels,2\ncell,4\nupdates,64\npages,40\n",
         "insert,5,5\n",
-        "session,0\nstored,1\nhistory,",
+        "session,0\nstored,1\nhistory,1,0\ninsert,0,1,5,5\ncells,2\n0,1\n1,0\nentries,1\npages,1,40\n",
     ),
-    // queries under pivots
+    // queries with pivots
     (
         b"metric,l1\ndims,1\npivot,0\npivot,10\nlevels,2\ncell,4\nupdates,64\npages,40\n",
         "insert,1,18\nrange,3,2\nrange,2,2\n",
-        "session,0\nstored,1\nrange,1,0,0,1,2\nrange,1,0,0,0,2\nhistory,",
+        "session,0\nstored,1\nrange,1,0,0,1,2\nrange,1,0,0,0,2\nhistory,1,0\ninsert,0,1,1,18\ncells,2\n0,0\n1,1\nentries,1\npages,1,40\n",
     ),
     (
         b"metric,l1\ndims,1\npivot,0\npivot,10\nlevels,2\ncell,4\nupdates,64\npages,40\n",
         "insert,1,1\ninsert,2,2\ninsert,3,3\ninsert,4,4\ninsert,9,9\nrange,1,2\n",
-        "session,0\nstored,1\nstored,2\nstored,3\nstored,4\nstored,5\nrange,5,0,3,1,5\n0,2\n1,1\n1,3\nhistory,",
+        "session,0\nstored,1\nstored,2\nstored,3\nstored,4\nstored,5\nrange,5,0,3,1,5\n0,2\n1,1\n1,3\nhistory,5,0\ninsert,0,1,1,1\ninsert,0,2,2,2\ninsert,0,3,3,3\ninsert,0,4,4,4\ninsert,0,5,9,9\ncells,2\n0,4\n1,1\nentries,5\npages,1,40\n",
     ),
 ];
 
@@ -199,11 +194,6 @@ fn check_replies(
         assert!(rt; out.bytes().starts_with(replies.as_bytes()), "{script}");
     }
     Ok(())
-}
-
-#[test]
-fn scripts_have_their_replies(rt: HostRuntime) -> Result<(), Fail> {
-    check_replies(&rt, rt.alloc(), &REPLIES)
 }
 
 /// So many coordinates after commas.
@@ -579,8 +569,6 @@ fn a_file_above_the_bound_is_too_large(rt: HostRuntime) -> Result<(), Fail> {
 #[test]
 fn other_words_have_the_usage_line(rt: HostRuntime) -> Result<(), Fail> {
     let alloc = rt.alloc();
-    let usage =
-        "usage: mindex replay SETTINGS SCHEDULE SCRIPT... | run SETTINGS SCRIPT... | make SEED | choose SETTINGS SCRIPT COUNT\n";
     let none: &[&str] = &[];
     let cases: [&[&str]; 9] = [
         none,
@@ -600,7 +588,7 @@ fn other_words_have_the_usage_line(rt: HostRuntime) -> Result<(), Fail> {
         let gate = OpenGate::new();
         let status = mindex(&rt, alloc, words.as_slice(), &mut files, &mut out, &gate);
         assert_eq!(rt; status, 1);
-        assert_eq!(rt; out.bytes(), usage.as_bytes());
+        assert_eq!(rt; out.bytes(), choices::USAGE.as_bytes());
     }
     Ok(())
 }
@@ -626,100 +614,6 @@ fn each_failed_read_and_write_is_told(rt: HostRuntime) -> Result<(), Fail> {
         assert_eq!(rt; status, 5, "write {write}");
         assert!(rt; NEAR_TEXT.as_bytes().starts_with(sent), "write {write}");
         assert!(rt; sent.len() as u64 <= 8 * (write - 1), "write {write}");
-    }
-    Ok(())
-}
-
-/// The lines of a scan of the objects for those within the radius.
-fn scan(
-    alloc: Global,
-    objects: &BTreeMap<u64, i64>,
-    head: &str,
-    radius: i64,
-    query: i64,
-) -> Result<String, Fail> {
-    let mut rows = Vec::new(alloc);
-    for (id, coordinate) in objects {
-        let distance = coordinate.saturating_sub(query).saturating_abs();
-        if distance <= radius {
-            rows.push((distance, *id))?;
-        }
-    }
-    rows.sort()?;
-    let found = rows.len();
-    let live = objects.len();
-    let mut text = format!(in alloc; "{head},{found},1,{live}\n")?;
-    for (distance, id) in rows.as_slice() {
-        let line = format!(in alloc; "{distance},{id}\n")?;
-        text.push_str(line.as_str())?;
-    }
-    Ok(text)
-}
-
-/// The record of an update.
-fn update_line(alloc: Global, deletes: bool, id: u64, coordinate: i64) -> Result<String, Fail> {
-    if deletes {
-        Ok(format!(in alloc; "delete,{id}\n")?)
-    } else {
-        Ok(format!(in alloc; "insert,{id},{coordinate}\n")?)
-    }
-}
-
-/// A script by a fixed rule, and the replies that scanning by hand gives.
-fn scanned_script(alloc: Global, seed: u64) -> Result<(String, String), Fail> {
-    let mut state = seed;
-    let mut objects = BTreeMap::new(alloc);
-    let mut updates = 0u64;
-    let mut script = String::new(alloc);
-    let mut replies = String::from_str(alloc, "session,0\n")?;
-    for turn in 0..80u64 {
-        state = state
-            .wrapping_mul(6364136223846793005)
-            .wrapping_add(1442695040888963407);
-        let id = (state >> 33) % 9;
-        let coordinate = ((state >> 40) % 21) as i64 - 10;
-        if turn > 0 && state >> 62 == 0 {
-            let line = format!(in alloc; "range,{id},{coordinate}\n")?;
-            script.push_str(line.as_str())?;
-            let head = format!(in alloc; "range,{updates},0")?;
-            let rows = scan(alloc, &objects, head.as_str(), id as i64, coordinate)?;
-            replies.push_str(rows.as_str())?;
-            continue;
-        }
-        let deletes = turn > 0 && state >> 62 == 1;
-        let line = update_line(alloc, deletes, id, coordinate)?;
-        script.push_str(line.as_str())?;
-        let reply = match (deletes, objects.contains_key(&id)) {
-            (true, false) => format!(in alloc; "absent,{updates},0\n")?,
-            (false, true) => format!(in alloc; "present,{updates},0\n")?,
-            (accepts_delete, _) => {
-                updates = updates.saturating_add(1);
-                if accepts_delete {
-                    objects.remove(&id);
-                    format!(in alloc; "removed,{updates}\n")?
-                } else {
-                    objects.insert(id, coordinate)?;
-                    format!(in alloc; "stored,{updates}\n")?
-                }
-            }
-        };
-        replies.push_str(reply.as_str())?;
-    }
-    Ok((script, replies))
-}
-
-#[test]
-fn replies_are_those_of_a_scan_by_hand(rt: HostRuntime) -> Result<(), Fail> {
-    let alloc = rt.alloc();
-    let words = replay_words(alloc)?;
-    let line = b"metric,l1\ndims,1\nlevels,0\ncell,1\nupdates,100\npages,1\n";
-    for seed in 0..8u64 {
-        let (script, replies) = scanned_script(alloc, seed)?;
-        let mut files = files_of(alloc, line, b"", script.as_bytes(), &[])?;
-        let mut out = MemorySink::new(alloc, 100, &[], 100_000)?;
-        let status = replay_call(alloc, words.as_slice(), &mut files, &mut out);
-        assert_eq!(rt; status, 0, "seed {seed}");
-        assert!(rt; out.bytes().starts_with(replies.as_bytes()), "seed {seed}");
     }
     Ok(())
 }

@@ -69,3 +69,19 @@ fn a_usage_line_that_is_cut_off_is_a_failed_write(rt: HostRuntime) -> Result<(),
     assert_eq!(rt; out.bytes(), "usage: mindex re".as_bytes());
     Ok(())
 }
+
+/// The figures of the workload of number 1.
+const FIRST: &str =
+    "seed,1\nupdates,5100\nsplits,14\ncells,150\nentries,4900\npages,288,4100\nqueries,300\nrows,2975\nopened,30702\ndistances,419866\n";
+
+#[test]
+fn a_workload_has_the_same_figures_each_time(rt: HostRuntime) -> Result<(), Fail> {
+    let alloc = rt.alloc();
+    let words = words_of(alloc, &["make", "1"])?;
+    for _ in 0..2 {
+        let mut out = MemorySink::new(alloc, 1000, &[], 1000)?;
+        assert_eq!(rt; make_call(alloc, words.as_slice(), &mut out), 0);
+        assert_eq!(rt; out.bytes(), FIRST.as_bytes());
+    }
+    Ok(())
+}

@@ -1,8 +1,7 @@
-//! Workloads with queries under pivots against the plain program, which tries each leaf by the rules and scans all live objects.
+//! The queries of the plain program, which tries each leaf by the rules and scans all live objects.
 
-use super::workloads::{Hull, Scans, Setting, advance, check_workload, distance, settings_text};
+use super::scans::{Hull, Scans, Setting, distance};
 use std::alloc::Global;
-use std::process::Abort;
 use std::test::Fail;
 
 /// No distance between two points of these workloads is greater.
@@ -206,45 +205,6 @@ impl<'a> Scans<'a> {
     }
 }
 
-/// A script of 240 operations by a fixed rule, nearly half of them inserts, and the transcript that the plain program gives.
-fn workload(alloc: Global, setting: &Setting, seed: u64) -> Result<(String, String), Fail> {
-    let mut state = seed;
-    let mut script = String::new(alloc);
-    let mut scans = Scans::new(alloc, setting)?;
-    for op in 1..241u64 {
-        state = advance(state);
-        let number = (state >> 33) % 90;
-        let x = ((state >> 40) % 21) as i64 - 10;
-        let y = ((state >> 50) % 21) as i64 - 10;
-        let line = match state >> 60 {
-            0..=2 => {
-                scans.make(alloc, op, number, None)?;
-                format!(in alloc; "delete,{number}\n")?
-            }
-            3 | 4 => {
-                let radius = number % 14;
-                let lines = scans.range(alloc, radius as i64, [x, y])?;
-                scans.reply(alloc, lines.as_str())?;
-                format!(in alloc; "range,{radius},{x},{y}\n")?
-            }
-            5..=8 => {
-                // One query in fifteen asks for more than there are.
-                let count = if number < 84 { number % 12 + 1 } else { 1000 };
-                let lines = scans.nearest(alloc, count as usize, [x, y])?;
-                scans.reply(alloc, lines.as_str())?;
-                format!(in alloc; "nearest,{count},{x},{y}\n")?
-            }
-            _ => {
-                scans.make(alloc, op, number, Some([x, y]))?;
-                format!(in alloc; "insert,{number},{x},{y}\n")?
-            }
-        };
-        script.push_str(line.as_str())?;
-    }
-    let text = scans.finish(alloc)?;
-    Ok((script, text))
-}
-
 /// Pivots whose distances from a point differ by even and by odd numbers.
 pub(super) static SETTINGS: [Setting; 5] = [
     Setting {
@@ -278,21 +238,3 @@ pub(super) static SETTINGS: [Setting; 5] = [
         updates: 60,
     },
 ];
-
-/// The workloads of a few seeds give their transcripts.
-fn check_seeds(rt: &impl Abort, alloc: Global, setting: &Setting) -> Result<(), Fail> {
-    let settings = settings_text(alloc, setting, 1000)?;
-    for seed in 0..3u64 {
-        let made = workload(alloc, setting, seed)?;
-        check_workload(rt, alloc, settings.as_str(), seed, made)?;
-    }
-    Ok(())
-}
-
-#[test]
-fn queries_are_answered_as_scans_by_hand_answer_them(rt: HostRuntime) -> Result<(), Fail> {
-    for setting in &SETTINGS {
-        check_seeds(&rt, rt.alloc(), setting)?;
-    }
-    Ok(())
-}

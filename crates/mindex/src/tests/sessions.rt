@@ -1,8 +1,8 @@
 //! Workloads of several sessions under schedules, whose transcripts are held against the plain program, event by event.
 
 use super::queries::SETTINGS;
+use super::scans::{Scans, Setting, advance, place, settings_text};
 use super::words_of;
-use super::workloads::{Scans, Setting, advance, place, settings_text};
 use crate::replaying::replay_call;
 use mi_outside::{MemoryFiles, MemorySink};
 use std::alloc::Global;

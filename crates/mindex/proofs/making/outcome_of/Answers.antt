@@ -1,15 +1,7 @@
-use Rattle.std.proofs.Common.{sym, subst, arith}
-use Rattle.mi_base.specs.Configuration.{Configuration, metric_space}
-use Rattle.mi_base.specs.Space.{IsMetric}
+use Rattle.std.proofs.Common.{sym, subst}
 use Rattle.mi_make.specs.Workloads.{IsMade, MayBeRun}
-use Rattle.mi_metric.specs.Laws.{l1_is_metric}
 use Rattle.mindex.proofs.MakeLemmas.{made_items, outcome_made}
 use Rattle.mindex.proofs.making.outcome_of.Goals as goal
-
-pub replay-requires-clause-metric : goal.replay-requires-clause-metric
-replay-requires-clause-metric c =
-    let made = subst (IsMade c.args.seed) (sym c.workload.view_is) c.in_ok-workload.ensures.made in
-    subst (λ (s : Configuration). IsMetric (metric_space s)) (sym made.settings) (l1_is_metric 16 (omega arith))
 
 pub replay-requires-clause-scripts : goal.replay-requires-clause-scripts
 replay-requires-clause-scripts c =

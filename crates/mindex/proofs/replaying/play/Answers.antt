@@ -1,14 +1,9 @@
 use Rattle.std.proofs.Common.{length, subst, sym}
 use Rattle.std.specs.List.{AllByRecursion}
-use Rattle.mi_base.specs.Space.{IsMetric}
-use Rattle.mi_table.specs.Any.{any_is_metric}
 use Rattle.mi_replay.specs.Tables.{IsItemOver}
 use Rattle.mindex.specs.declared.loading.Loaded.{Loaded}
 use Rattle.mindex.proofs.CallLemmas.{items_over}
 use Rattle.mindex.proofs.replaying.play.Goals as goal
-
-pub replay-requires-clause-metric : goal.replay-requires-clause-metric
-replay-requires-clause-metric c = subst IsMetric c.requires.space (any_is_metric c.args.inputs.now.metric)
 
 pub replay-requires-clause-schedule : goal.replay-requires-clause-schedule
 replay-requires-clause-schedule c =
