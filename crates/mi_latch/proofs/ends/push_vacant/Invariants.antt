@@ -1,0 +1,6 @@
+use Rattle.std.proofs.Common.{◌≡◌, ◌++◌, replicate}
+use Rattle.mi_latch.specs.declared.slots.Slot.TheVariants.{Vacant}
+use Rattle.mi_latch.proofs.ends.push_vacant.Given as goal
+
+abbrev pub invariant-loop : goal.invariant-loop
+invariant-loop l = l.slots.items ≡ l.fn.slots.items ++ replicate l.counter Vacant

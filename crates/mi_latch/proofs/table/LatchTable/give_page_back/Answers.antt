@@ -1,0 +1,5 @@
+use Rattle.mi_latch.proofs.Takes.{plain_page}
+use Rattle.mi_latch.proofs.table.LatchTable.give_page_back.Goals as goal
+
+pub give_back-requires-clause-plain : goal.give_back-requires-clause-plain
+give_back-requires-clause-plain c = plain_page _

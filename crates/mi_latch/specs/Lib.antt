@@ -1,0 +1,13 @@
+pub mod Shows
+pub mod Wanting
+pub mod Layout
+pub mod Views
+pub mod Takes
+pub mod Boards
+pub mod PageSteps
+pub mod Boths
+pub mod Ends
+pub mod Naming
+pub mod Decided
+pub mod Found
+pub mod Learning
