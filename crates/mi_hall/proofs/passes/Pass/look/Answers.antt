@@ -1,0 +1,23 @@
+use Rattle.std.proofs.Common.{◌∙◌, ap, refl}
+use Rattle.mi_hall.proofs.LookCall.{look_cells, look_does, look_told}
+use Rattle.mi_hall.proofs.NamedPages.{board_near}
+use Rattle.mi_hall.proofs.PassLemmas.{given_pass, word_stays}
+use Rattle.mi_hall.proofs.passes.Pass.look.Goals as goal
+
+pub give_board-requires-clause-last : goal.give_board-requires-clause-last
+give_board-requires-clause-last g c = (_, c.take_board-board.ensures.last)
+
+pub give_board-requires-clause-does : goal.give_board-requires-clause-does
+give_board-requires-clause-does g c = let e = c.take_board-board.ensures in look_does _ _ _ _ _ _ _ _ _ c.self.invariant.0 e.took e.told c.look.ensures e.last
+
+pub invariant_of-self : goal.invariant_of-self
+invariant_of-self g c =
+    let e = c.take_board-board.ensures in (
+      given_pass _ _ _ _ _ _ _ _ _ _ _ c.self.invariant.0 e.took c.give_board.ensures.gave (ap (λ z. z.shard) c.look.ensures),
+      board_near _ _ _ _ _ _ _ _ _ _ _ _ c.self.invariant.0.live e.took e.told c.give_board.ensures.gave refl c.args.latches.now.words c.self.view_is c.requires.table (c.give_board.ensures.table.0 ∙ e.table.0) c.self.invariant.1,
+      look_cells _ _ _ _ _ _ _ _ _ c.self.invariant.0 e.took e.told c.look.ensures _ c.give_board.ensures.gave,
+      word_stays _ _ _ _ (c.give_board.ensures.table.0 ∙ e.table.0) (ap (λ z. z.hand.fresh) c.look.ensures) c.self.invariant.3,
+    )
+
+pub returns-clause-told : goal.returns-clause-told
+returns-clause-told g c = let e = c.take_board-board.ensures in look_told _ _ _ _ _ _ _ _ _ c.self.invariant.0 e.took e.told c.look.ensures c.look-look.result c.look-look.ensures _ _ c.self.view_is _ c.give_board.ensures.gave

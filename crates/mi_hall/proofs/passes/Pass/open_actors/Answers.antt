@@ -1,0 +1,29 @@
+use Rattle.std.proofs.Common.{ap, refl, sym, ◌∙◌}
+use Rattle.mi_board.specs.Boards.{open_count}
+use Rattle.mi_latch.specs.Views.{Seated}
+use Rattle.mi_hall.proofs.DepartCall.{see_cells, see_does, see_told}
+use Rattle.mi_hall.proofs.PassLemmas.{given_pass, word_stays}
+use Rattle.mi_hall.proofs.NamedPages.{board_near}
+use Rattle.mi_solo.specs.declared.rows.ActorRow.{ActorRow}
+use Rattle.mi_hall.proofs.passes.Pass.open_actors.Goals as goal
+
+pub give_board-requires-clause-last : goal.give_board-requires-clause-last
+give_board-requires-clause-last g c = (_, c.take_board-board.ensures.last)
+
+pub give_board-requires-clause-does : goal.give_board-requires-clause-does
+give_board-requires-clause-does g c = let e = c.take_board-board.ensures in see_does _ _ _ _ _ _ _ _ c.self.invariant.0 e.took e.told _ c.see.ensures e.last
+
+pub invariant_of-self : goal.invariant_of-self
+invariant_of-self g c =
+    let e = c.take_board-board.ensures in (
+      given_pass _ _ _ _ _ _ _ _ _ _ _ c.self.invariant.0 e.took c.give_board.ensures.gave (ap (λ (z : ActorRow). z.shard) c.see.ensures),
+      board_near _ _ _ _ _ _ _ _ _ _ _ _ c.self.invariant.0.live e.took e.told c.give_board.ensures.gave refl c.args.latches.now.words c.self.view_is c.requires.table (c.give_board.ensures.table.0 ∙ e.table.0) c.self.invariant.1,
+      see_cells _ _ _ _ _ _ _ _ c.self.invariant.0 e.took e.told _ c.see.ensures _ c.give_board.ensures.gave,
+      word_stays _ _ _ _ (c.give_board.ensures.table.0 ∙ e.table.0) (ap (λ (z : ActorRow). z.hand.fresh) c.see.ensures) c.self.invariant.3,
+    )
+
+pub returns-clause-told : goal.returns-clause-told
+returns-clause-told g c = let e = c.take_board-board.ensures in see_told _ _ _ _ _ _ _ _ c.self.invariant.0 e.took e.told _ c.see.ensures _ _ c.self.view_is _ c.give_board.ensures.gave
+
+pub returns-clause-count : goal.returns-clause-count
+returns-clause-count g c = c.open_actors-count.ensures ∙ ap (λ (z : Seated). open_count z.0.mine.note.board.actors) (sym c.give_board.ensures.gave)

@@ -1,0 +1,29 @@
+use Rattle.mi_hall.proofs.PinCall.{pins_cells, pin_free, pin_known, pins_does, pins_hand, pins_root, pins_shard, pins_told}
+use Rattle.std.proofs.Common.{◌∙◌}
+use Rattle.mi_hall.proofs.NamedPages.{board_near}
+use Rattle.mi_hall.proofs.PassLemmas.{given_pass, word_stays}
+use Rattle.mi_hall.proofs.passes.Pass.pin.Goals as goal
+
+pub pin_row-result-requires-clause-known : goal.pin_row-result-requires-clause-known
+pin_row-result-requires-clause-known g c = let e = c.take_board-board.ensures in pin_known _ _ _ _ _ _ _ _ c.self.invariant.0 e.took e.told _ _ c.self.view_is c.requires.free
+
+pub pin_row-result-requires-clause-free : goal.pin_row-result-requires-clause-free
+pin_row-result-requires-clause-free g c = let e = c.take_board-board.ensures in pin_free _ _ _ _ _ _ _ _ c.self.invariant.0 e.took e.told _ _ c.self.view_is c.requires.free
+
+pub give_board-requires-clause-last : goal.give_board-requires-clause-last
+give_board-requires-clause-last g c = (_, c.take_board-board.ensures.last)
+
+pub give_board-requires-clause-does : goal.give_board-requires-clause-does
+give_board-requires-clause-does g c = let e = c.take_board-board.ensures in pins_does _ _ _ _ _ _ _ _ c.self.invariant.0 e.took e.told _ _ c.self.view_is c.requires.free _ _ c.pin_row-result.result c.pin_row-result.ensures e.last
+
+pub invariant_of-self : goal.invariant_of-self
+invariant_of-self g c =
+    let e = c.take_board-board.ensures in (
+      given_pass _ _ _ _ _ _ _ _ _ _ _ c.self.invariant.0 e.took c.give_board.ensures.gave (pins_shard _ _ _ _ _ _ _ _ c.self.invariant.0 e.took e.told _ _ c.self.view_is c.requires.free _ _ c.pin_row-result.result c.pin_row-result.ensures),
+      board_near _ _ _ _ _ _ _ _ _ _ _ _ c.self.invariant.0.live e.took e.told c.give_board.ensures.gave (pins_root _ _ _ _ _ _ _ _ c.self.invariant.0 e.took e.told _ _ c.self.view_is c.requires.free _ _ c.pin_row-result.result c.pin_row-result.ensures) c.args.latches.now.words c.self.view_is c.requires.table (c.give_board.ensures.table.0 ∙ e.table.0) c.self.invariant.1,
+      pins_cells _ _ _ _ _ _ _ _ c.self.invariant.0 e.took e.told _ _ c.self.view_is c.requires.free _ _ c.pin_row-result.result c.pin_row-result.ensures _ c.give_board.ensures.gave,
+      word_stays _ _ _ _ (c.give_board.ensures.table.0 ∙ e.table.0) (pins_hand _ _ _ _ _ _ _ _ c.self.invariant.0 e.took e.told _ _ c.self.view_is c.requires.free _ _ c.pin_row-result.result c.pin_row-result.ensures) c.self.invariant.3,
+    )
+
+pub returns-clause-told : goal.returns-clause-told
+returns-clause-told g c = let e = c.take_board-board.ensures in pins_told _ _ _ _ _ _ _ _ c.self.invariant.0 e.took e.told _ _ c.self.view_is c.requires.free _ _ c.pin_row-result.result c.pin_row-result.ensures _ c.give_board.ensures.gave

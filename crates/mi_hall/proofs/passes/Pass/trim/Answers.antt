@@ -1,0 +1,45 @@
+use Rattle.std.proofs.Common.{◌∙◌, ap, subst, sym}
+use Rattle.atomic_table.specs.Seated.{TableId}
+use Rattle.mi_hall.specs.Passes.{AreNear}
+use Rattle.mi_hall.proofs.PassLemmas.{turned_cells, word_stays}
+use Rattle.mi_hall.proofs.PageSection.{named_before, named_here, sibling_here, turned_near, turned_pass}
+use Rattle.mi_hall.proofs.TrimCall.{trim_leaf_page, trims_does, trims_hand, trims_pin, trims_shard, trims_told}
+use Rattle.mi_hall.proofs.passes.Pass.trim.Goals as goal
+
+pub take_page-node-requires-clause-table : goal.take_page-node-requires-clause-table
+take_page-node-requires-clause-table g c =
+    named_before c.self.inside.seat.me c.self.inside.seat.table_id c.args.latches.now.table.shared.table_id c.args.self.now _ c.args.latches.now.words c.self.invariant.1 c.self.view_is c.requires.table _ c.requires.named
+
+pub take_page-node-requires-clause-named : goal.take_page-node-requires-clause-named
+take_page-node-requires-clause-named g c = named_here c.self.inside.seat.me c.self.inside.seat.table_id c.args.self.now c.self.view_is _ c.requires.named
+
+pub trim_row-answer-requires-clause-leaf : goal.trim_row-answer-requires-clause-leaf
+trim_row-answer-requires-clause-leaf g c = let e = c.take_page-node.ensures in trim_leaf_page _ _ _ _ _ _ _ _ _ c.self.invariant.0 e.took e.told _ _ c.self.view_is c.requires.named c.requires.leaf
+
+pub trim_row-answer-requires-clause-sibling : goal.trim_row-answer-requires-clause-sibling
+trim_row-answer-requires-clause-sibling g c = let e = c.take_page-node.ensures in sibling_here _ _ _ _ _ _ _ _ _ c.self.invariant.0 e.took e.told
+
+pub give_page-requires-clause-table : goal.give_page-requires-clause-table
+give_page-requires-clause-table g c =
+    let x = named_before c.self.inside.seat.me c.self.inside.seat.table_id c.args.latches.now.table.shared.table_id c.args.self.now _ c.args.latches.now.words c.self.invariant.1 c.self.view_is c.requires.table _ c.requires.named in
+    (c.take_page-node.ensures.table.0 ∙ x.0, x.1)
+
+pub give_page-requires-clause-last : goal.give_page-requires-clause-last
+give_page-requires-clause-last g c = (_, c.take_page-node.ensures.last)
+
+pub give_page-requires-clause-does : goal.give_page-requires-clause-does
+give_page-requires-clause-does g c = let e = c.take_page-node.ensures in trims_does _ _ _ _ _ _ _ _ _ c.self.invariant.0 e.took e.told _ _ c.self.view_is c.requires.named c.requires.leaf _ _ c.trim_row-answer.result c.trim_row-answer.ensures e.last
+
+pub invariant_of-self : goal.invariant_of-self
+invariant_of-self g c =
+    let e = c.take_page-node.ensures in
+    let x = named_before c.self.inside.seat.me c.self.inside.seat.table_id c.args.latches.now.table.shared.table_id c.args.self.now _ c.args.latches.now.words c.self.invariant.1 c.self.view_is c.requires.table _ c.requires.named in (
+      turned_pass _ _ _ _ _ _ _ _ _ c.self.invariant.0 e.took e.told c.give_page.new.seat.me c.trim_row-answer.new.row c.trim_row-answer.new.node c.give_page.ensures.gave (trims_shard _ c.take_page-node.result c.trim_row-answer.new.node c.self.inside.row c.trim_row-answer.new.row c.trim_row-answer.result c.trim_row-answer.ensures),
+      subst (λ (t : TableId). AreNear t.words c.give_page.new.seat.me.0.mine.named) (sym (c.give_page.ensures.table.0 ∙ e.table.0))
+          (turned_near _ _ _ _ _ _ _ _ _ c.self.invariant.0 e.took e.told c.give_page.new.seat.me c.trim_row-answer.new.row c.trim_row-answer.new.node c.give_page.ensures.gave _ (ap (λ (t : TableId). t.words) x.0 ∙ c.args.latches.now.words) c.self.invariant.1),
+      turned_cells _ _ c.give_page.new.seat.me _ _ c.trim_row-answer.new.row _ _ _ c.take_page-node.result c.trim_row-answer.new.node c.self.invariant.0 c.self.invariant.2 e.took c.give_page.ensures.gave (trims_pin _ c.take_page-node.result c.trim_row-answer.new.node c.self.inside.row c.trim_row-answer.new.row c.trim_row-answer.result c.trim_row-answer.ensures),
+      word_stays _ _ c.self.inside.row.hand.fresh c.trim_row-answer.new.row.hand.fresh (c.give_page.ensures.table.0 ∙ e.table.0) (trims_hand _ c.take_page-node.result c.trim_row-answer.new.node c.self.inside.row c.trim_row-answer.new.row c.trim_row-answer.result c.trim_row-answer.ensures) c.self.invariant.3,
+    )
+
+pub returns-clause-told : goal.returns-clause-told
+returns-clause-told g c = let e = c.take_page-node.ensures in trims_told _ _ _ _ _ _ _ _ _ c.self.invariant.0 e.took e.told _ _ c.self.view_is c.requires.named c.requires.leaf _ _ _ c.give_page.ensures.gave c.trim_row-answer.result c.trim_row-answer.ensures

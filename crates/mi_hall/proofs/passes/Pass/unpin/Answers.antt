@@ -1,0 +1,29 @@
+use Rattle.std.proofs.Common.{◌∙◌, ap}
+use Rattle.mi_hall.proofs.UnpinCall.{unpin_cells, unpin_does, unpin_known, unpin_pins, unpin_told}
+use Rattle.mi_hall.proofs.NamedPages.{board_near}
+use Rattle.mi_hall.proofs.PassLemmas.{given_pass, word_stays}
+use Rattle.mi_hall.proofs.passes.Pass.unpin.Goals as goal
+
+pub unpin-requires-clause-known : goal.unpin-requires-clause-known
+unpin-requires-clause-known g c = let e = c.take_board-board.ensures in unpin_known _ _ _ _ _ _ _ _ c.self.invariant.0 e.took e.told _ _ c.self.view_is c.requires.pinned
+
+pub unpin-requires-clause-pins : goal.unpin-requires-clause-pins
+unpin-requires-clause-pins g c = let e = c.take_board-board.ensures in unpin_pins _ _ _ _ _ _ _ _ c.self.invariant.0 e.took e.told _ _ c.self.view_is c.requires.pinned
+
+pub give_board-requires-clause-last : goal.give_board-requires-clause-last
+give_board-requires-clause-last g c = (_, c.take_board-board.ensures.last)
+
+pub give_board-requires-clause-does : goal.give_board-requires-clause-does
+give_board-requires-clause-does g c = let e = c.take_board-board.ensures in unpin_does _ _ _ _ _ _ _ _ c.self.invariant.0 e.took e.told _ _ c.self.view_is c.requires.pinned _ _ c.unpin.ensures c.unpin-2.ensures e.last
+
+pub invariant_of-self : goal.invariant_of-self
+invariant_of-self g c =
+    let e = c.take_board-board.ensures in (
+      given_pass _ _ _ _ _ _ _ _ _ _ _ c.self.invariant.0 e.took c.give_board.ensures.gave (ap (λ z. z.shard) c.unpin-2.ensures),
+      board_near _ _ _ _ _ _ _ _ _ _ _ _ c.self.invariant.0.live e.took e.told c.give_board.ensures.gave (ap (λ z. z.root) c.unpin.ensures) c.args.latches.now.words c.self.view_is c.requires.table (c.give_board.ensures.table.0 ∙ e.table.0) c.self.invariant.1,
+      unpin_cells _ _ _ _ _ _ _ _ c.self.invariant.0 e.took e.told _ _ c.self.view_is c.requires.pinned _ _ c.unpin.ensures c.unpin-2.ensures _ c.give_board.ensures.gave,
+      word_stays _ _ _ _ (c.give_board.ensures.table.0 ∙ e.table.0) (ap (λ z. z.hand.fresh) c.unpin-2.ensures) c.self.invariant.3,
+    )
+
+pub returns-clause-told : goal.returns-clause-told
+returns-clause-told g c = let e = c.take_board-board.ensures in unpin_told _ _ _ _ _ _ _ _ c.self.invariant.0 e.took e.told _ _ c.self.view_is c.requires.pinned _ _ c.unpin.ensures c.unpin-2.ensures _ c.give_board.ensures.gave

@@ -1,0 +1,27 @@
+//! Places at the table of latched values: what a seat knows, its view, and what each section makes of that.
+#![tactic(auto)]
+
+mod boards;
+mod commits;
+mod families;
+mod family_calls;
+mod page_calls;
+mod pages;
+mod passes;
+mod places;
+mod seats;
+mod shards;
+mod splits;
+
+pub use boards::{
+    claims_follow, looks_follow, pages_are_allotted, pins_follow, reservations_follow,
+    roots_follow, splits_end, work_is_given,
+};
+pub use commits::{deletes_follow, inserts_follow};
+pub use families::actors_follow;
+pub use pages::{halves_follow, posts_follow, sweeps_follow, trims_follow, visits_follow};
+pub use passes::Pass;
+pub use places::{Hall, Place};
+pub use seats::{conditions_are_met, pages_are_known, seats_are_shown};
+pub use shards::shards_follow;
+pub use splits::{copies_follow, gathers_follow, uncopies_follow};

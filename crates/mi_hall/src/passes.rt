@@ -1,0 +1,219 @@
+//! A seat between two calls, and its sections of the board.
+ghost use Rattle.std.specs.Prelude.{◌≡◌, ◌<◌, [], IsSome, None, false, is_some, length};
+ghost use Rattle.atomic_table.specs.Table.{rest};
+ghost use Rattle.mi_board.specs.Actors.{actor_at};
+ghost use Rattle.mi_board.specs.Boards.{BoardState, cells_in};
+ghost use Rattle.mi_latch.specs.Views.{Doing, HoldsLast};
+ghost use Rattle.mi_hall.specs.Passes.{AllotsRow, PinsRow, giving};
+ghost use Rattle.mi_base.specs.Configuration.{Configuration};
+ghost use Rattle.mi_latch.specs.Views.{newcomer};
+ghost use Rattle.mi_world.specs.Boards.{Allots, Looks, Pins, Unpins};
+ghost use Rattle.mi_world.specs.Pages.{pinned};
+ghost use Rattle.mi_hall.specs.Seats.{seat_view};
+
+use mi_base::{NoMemory, Steps};
+use mi_board::Board;
+use mi_latch::{Aim, LatchTable, Seat, Slot};
+use mi_shard::ShardRows;
+use mi_solo::rows::{ActorRow, PinRow};
+use mi_tree::{AllotRefusal, Catalog, Look};
+use std::alloc::Global;
+use std::marker::{Brand, Model};
+use std::sync::Wait;
+use std::sync::ledger::{Blank, Ledger};
+
+/// A place without its loan of the hall: its seat, the number and the row of its actor, the rows of
+/// the shard that it holds, and whether it was told that all pages are allotted.
+pub struct Pass {
+    pub(crate) seat: Seat,
+    pub(crate) actor: u32,
+    pub(crate) row: ActorRow,
+    pub(crate) rows: Option<ShardRows>,
+    pub(crate) told: bool,
+}
+
+impl Model for Pass {
+    ghost use Rattle.mi_hall.specs.Passes.{AreNear, HasCells, HasWord, IsPass, PassState};
+
+    ghost Value = { PassState };
+
+    ghost view = { λ p. record { sight = p.seat.me.0; table = p.seat.table_id } };
+
+    ghost invariant = { λ p. IsPass p.seat.me p.actor p.row p.rows p.told
+        × AreNear p.seat.table_id.words p.seat.me.0.mine.named × HasCells p.seat.me.0.mine
+        × HasWord p.seat.table_id.words p.row.hand.fresh };
+}
+
+impl Pass {
+    /// The pass of the first actor, which has the first seat.
+    pub(crate) fn first(alloc: Global, seat: Seat) -> Pass
+        requires first { (settings : Configuration) × (seat.me ≡ (newcomer settings, [])) }
+        requires near { 17 < seat.table_id.words }
+        ensures { result ≡ record { sight = seat.me.0; table = seat.table_id } }
+    {
+        Pass {
+            seat,
+            actor: 0,
+            row: ActorRow::first(alloc),
+            rows: None,
+            told: false,
+        }
+    }
+
+    /// Sees the whole log, once the board is free.
+    pub(crate) fn look<R: Wait>(&mut self, rt: &R, latches: &LatchTable) -> Look
+        requires table { self.old.table ≡ latches.now.table.shared.table_id }
+        ensures table { self.new.table ≡ self.old.table }
+        ensures told { Looks (seat_view self.old.sight) (seat_view self.new.sight) result }
+    {
+        let board = latches.take_board(rt, &mut self.seat, self.actor);
+        let look = board.look();
+        self.row.look(&board);
+        give_board::<Brand>(latches, &mut self.seat, &self.row, self.told, board);
+        look
+    }
+
+    /// Pins the whole log, once the board is free.
+    pub(crate) fn pin<R: Wait>(
+        &mut self,
+        rt: &R,
+        latches: &LatchTable,
+        alloc: Global,
+    ) -> Result<Look, NoMemory>
+        requires table { self.old.table ≡ latches.now.table.shared.table_id }
+        requires free { (seat_view self.old.sight).pin ≡ None }
+        ensures table { self.new.table ≡ self.old.table }
+        ensures told { Pins (seat_view self.old.sight) (seat_view self.new.sight) result }
+    {
+        let mut board = latches.take_board(rt, &mut self.seat, self.actor);
+        let blank = Blank::new(1);
+        let result = pin_row::<Brand>(alloc, self.actor, &mut board, &mut self.row, blank);
+        give_board::<Brand>(latches, &mut self.seat, &self.row, self.told, board);
+        result
+    }
+
+    /// The cells of the pinned log.
+    pub(crate) fn pinned(&self) -> &Catalog
+        requires { IsSome (seat_view self.now.sight).pin }
+        ensures { result.now ≡ cells_in (seat_view self.now.sight).settings (pinned (seat_view self.now.sight)) }
+    {
+        let Some(pin) = &self.row.pin else {
+            unreachable!();
+        };
+        &pin.cells
+    }
+
+    /// Ends the pin, once the board is free.
+    pub(crate) fn unpin<R: Wait>(&mut self, rt: &R, latches: &LatchTable)
+        requires table { self.old.table ≡ latches.now.table.shared.table_id }
+        requires pinned { IsSome (seat_view self.old.sight).pin }
+        ensures table { self.new.table ≡ self.old.table }
+        ensures told { Unpins (seat_view self.old.sight) (seat_view self.new.sight) }
+    {
+        let mut board = latches.take_board(rt, &mut self.seat, self.actor);
+        board.unpin(self.actor);
+        self.row.unpin(&board);
+        give_board::<Brand>(latches, &mut self.seat, &self.row, self.told, board);
+    }
+
+    /// A fresh page is in its hand.
+    pub(crate) fn fresh(&self) -> bool
+        ensures { result ≡ is_some (seat_view self.now.sight).fresh }
+    {
+        self.row.hand.has_fresh()
+    }
+
+    /// Takes a fresh page in hand, once the board is free.
+    pub(crate) fn allot<R: Wait>(
+        &mut self,
+        rt: &R,
+        latches: &LatchTable,
+        alloc: Global,
+    ) -> Result<(), AllotRefusal>
+        requires table { self.old.table ≡ latches.now.table.shared.table_id }
+        requires free { is_some (seat_view self.old.sight).fresh ≡ false }
+        ensures table { self.new.table ≡ self.old.table }
+        ensures told { Allots (seat_view self.old.sight) (seat_view self.new.sight) result }
+    {
+        let mut board = latches.take_board(rt, &mut self.seat, self.actor);
+        let result = allot_row(alloc, &mut board, &mut self.row, &mut self.told);
+        give_board::<Brand>(latches, &mut self.seat, &self.row, self.told, board);
+        result
+    }
+}
+
+/// Takes the board's next page in the hand of the row.
+fn allot_row(
+    alloc: Global,
+    board: &mut Board,
+    row: &mut ActorRow,
+    told: &mut bool,
+) -> Result<(), AllotRefusal>
+    ensures { AllotsRow board.old row.old told.old result board.new row.new told.new }
+{
+    match row.hand.allot(alloc, board) {
+        Ok(()) => {
+            row.see(board);
+            Ok(())
+        }
+        Err(AllotRefusal::PagesFull { limit }) => {
+            row.see(board);
+            *told = true;
+            Err(AllotRefusal::PagesFull { limit })
+        }
+        Err(AllotRefusal::Memory) => {
+            row.lack(board);
+            Err(AllotRefusal::Memory)
+        }
+    }
+}
+
+/// Pins the end of the board's log for the actor of the row.
+fn pin_row<L: Ledger>(
+    alloc: Global,
+    actor: u32,
+    board: &mut Board,
+    row: &mut ActorRow,
+    blank: Blank,
+) -> Result<Look, NoMemory>
+    requires name { blank.name ≡ L.name }
+    requires parts { blank.parts ≡ L.parts }
+    requires some { 0 < blank.parts }
+    requires known { actor < length board.old.actors }
+    requires free { (actor_at board.old.actors actor).pin ≡ None }
+    ensures { PinsRow actor board.old row.old result board.new row.new }
+{
+    let floor = board.look().floor;
+    match board.pin(alloc, actor, &mut Steps::<L>::new(blank)) {
+        Ok((look, cells)) => {
+            let pin = PinRow { at: look.at, cells };
+            row.pin(board, floor, pin);
+            Ok(look)
+        }
+        Err(refusal) => {
+            row.see(board);
+            Err(refusal)
+        }
+    }
+}
+
+/// Puts the board back, which is the event that leads to this row.
+pub(crate) fn give_board<E: Aim>(
+    latches: &LatchTable,
+    seat: &mut Seat,
+    row: &ActorRow,
+    told: bool,
+    board: Board,
+)
+    requires aim { E.next ≡ giving seat.old.me.0 row.now board told (rest seat.old.me.0.out) }
+    requires table { seat.old.table_id ≡ latches.now.table.shared.table_id }
+    requires last { (was : BoardState) × HoldsLast seat.old.me 0 (Slot.OfBoard was) }
+    requires does { Doing latches.now.table.shared.key seat.old.me.0
+        (giving seat.old.me.0 row.now board told (rest seat.old.me.0.out)) 0 (Slot.OfBoard board) }
+    ensures table { (seat.new.table_id ≡ seat.old.table_id) × (seat.new.id ≡ seat.old.id) }
+    ensures gave { seat.new.me ≡ (giving seat.old.me.0 row.now board told (rest seat.old.me.0.out), rest seat.old.me.1) }
+{
+    let _row = row;
+    let _told = told;
+    latches.give::<E>(seat, 0, Slot::OfBoard(board));
+}
