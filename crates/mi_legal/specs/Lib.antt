@@ -1,4 +1,3 @@
-pub mod InTurn
 pub mod Legal
 pub mod Right
 pub mod Want

@@ -1,26 +1,13 @@
--- What an operation costs, and what a refusal leaves.
+-- What an operation costs.
 use Rattle.std.specs.Prelude.{◌≡◌, ℕ, ℤ, ◌+◌, ◌≤◌, ◌||◌, List, [], ◌∷◌, Bool, true, false, length}
 use Rattle.mi_base.specs.declared.records.LogEvent.{LogEvent}
 use Rattle.mi_base.specs.declared.records.Op.{Op}
 use Rattle.mi_base.specs.declared.records.Op.TheVariants as op
 use Rattle.mi_base.specs.declared.records.Reply.{Reply}
-use Rattle.mi_base.specs.declared.records.Reply.TheVariants.{Stored, Present, Absent, Full, Range, Nearest, Memory}
+use Rattle.mi_base.specs.declared.records.Reply.TheVariants.{Stored, Range, Nearest, Memory}
 use Rattle.mi_base.specs.Configuration.{Configuration, space_of}
 use Rattle.mi_base.specs.History.{at_position}
 use Rattle.mi_rules.specs.Passing.{kth_distance, reached_objects}
-
--- a refusal that isn't want of memory leaves the log as it was
-abbrev pub Keeps : List LogEvent → Reply → List LogEvent → Type 0
-Keeps old (Present p) new = new ≡ old
-Keeps old (Absent p) new = new ≡ old
-Keeps old (Full limit) new = new ≡ old
-Keeps old y new = Unit {0}
-
--- an insert takes one step for each pivot, and none where it is refused for another cause than want of memory
-abbrev pub WorksInsert : Configuration → ℕ → Reply → ℕ → Type 0
-WorksInsert c steps (Stored number) steps' = steps' ≡ steps + length c.pivots
-WorksInsert c steps Memory steps' = (steps ≤ steps') × (steps' ≤ steps + length c.pivots)
-WorksInsert c steps y steps' = steps' ≡ steps
 
 -- a range query takes one step for each distance that its reply tells
 abbrev pub Works : ℕ → Reply → ℕ → Type 0
@@ -82,14 +69,11 @@ abbrev pub most_of_all : Configuration → List LogEvent → List (List Op) → 
 most_of_all c log (os ∷ scripts) (ys ∷ replies) = most_sum c log os ys + most_of_all c log scripts replies
 most_of_all c log scripts replies = 0
 
--- An operation took no fewer and no more steps than its reply tells, and operations one after another no fewer and no more than the sums.
+-- An operation took no fewer and no more steps than its reply tells.
 abbrev pub TakesSteps : Configuration → List LogEvent → Op → Reply → ℕ → ℕ → Type 0
 TakesSteps c log o y steps steps' = lacks_answer o y ≡ false → (steps + least_steps c o y ≤ steps') × (steps' ≤ steps + most_steps c log o y)
 
-abbrev pub TakeSteps : Configuration → List LogEvent → List Op → List Reply → ℕ → ℕ → Type 0
-TakeSteps c log os ys steps steps' = lacks_some os ys ≡ false → (steps + least_sum c os ys ≤ steps') × (steps' ≤ steps + most_sum c log os ys)
-
--- so did the scripts of a run
+-- the scripts of a run took no fewer and no more than the sums
 abbrev pub AllTakeSteps : Configuration → List LogEvent → List (List Op) → List (List Reply) → ℕ → ℕ → Type 0
 AllTakeSteps c log scripts replies steps steps' =
     lacks_any scripts replies ≡ false → (steps + least_of_all c scripts replies ≤ steps') × (steps' ≤ steps + most_of_all c log scripts replies)
