@@ -70,24 +70,26 @@ module _ (c : Core) (a : ℕ) (known : a < length c.actors.items) (kept : Kept (
         let to = with_actor (with_reserved true) a c.board in
         let rows : Rows = (shard_at c.shards.items k).rows in
         let n : hand (actor_in (state_of c) a).shard ≡ k = ap hand held in
-        let give : Shard → Shard = λ x. held_by x.holder (record x.rows { room = length x.rows.records + 1 }) in
         let mine : Shard → Shard = λ x. held_by (Some a) (record x.rows { room = length x.rows.records + 1 }) in
-        let now_is : now ≡ mine (shard_at c.shards.items k) = told.3 ∙ ap (λ o. held_by o (record was.rows { room = length was.rows.records + 1 })) holder ∙ ap mine it in (
+        let now_is : now ≡ mine (shard_at c.shards.items k) = ap (held_by now.holder) told.0.3 ∙ ap (λ o. held_by o (record was.rows { room = length was.rows.records + 1 })) (told.1 ∙ holder) ∙ ap mine it in (
           record {
-            can = (held ∙ ap Some (sym n), refl, omega arith, told.0);
-            is = comes_to c a known row at b to told.2 refl (λ m n. refl) (set c.shards.items k now) (set c.shards.items (hand (actor_in (state_of c) a).shard) (mine (shard_at c.shards.items (hand (actor_in (state_of c) a).shard))))
+            can = (held ∙ ap Some (sym n), refl, omega arith, told.0.0);
+            is = comes_to c a known row at b to told.0.2 refl (λ m n. refl) (set c.shards.items k now) (set c.shards.items (hand (actor_in (state_of c) a).shard) (mine (shard_at c.shards.items (hand (actor_in (state_of c) a).shard))))
                 (ap (set c.shards.items k) now_is ∙ ap (λ m. set c.shards.items m (mine (shard_at c.shards.items m))) (sym n)) c.pages.items c.pages.items refl new
                 (λ (r : Actor). record (looked c.board r) { reserved = true; reserved_here = true })
-                (ap (actor_of c.board.settings c.board.log a) e ∙ log_of c.board.settings c.board.log b to told.2 a (λ n. record row { seen = n; floor = before.floor; reserved = true; reserved_here = true })
+                (ap (actor_of c.board.settings c.board.log a) e ∙ log_of c.board.settings c.board.log b to told.0.2 a (λ n. record row { seen = n; floor = before.floor; reserved = true; reserved_here = true })
                 ∙ ap (λ (l : Look). actor_of c.board.settings c.board.log a (record row { seen = length c.board.log; floor = l.floor; reserved = true; reserved_here = true })) was_look);
           },
-          told.1,
+          told.0.1,
         )
 
     same_state : b ≡ c.board → now ≡ was → new ≡ record row { seen = length b.log } → then ≡ record { board = c.board; shards = c.shards.items; pages = c.pages.items; actors = set (state_of c).actors a (saw c.board (actor_in (state_of c) a)) }
     same_state is one e = comes_to c a known row at b c.board is refl (λ m n. refl) (set c.shards.items k now) c.shards.items (ap (set c.shards.items k) one ∙ set_read c.shards.items k was there) c.pages.items c.pages.items refl new (saw c.board)
         (ap (actor_of c.board.settings c.board.log a) e ∙ log_of c.board.settings c.board.log b c.board is a (λ n. record row { seen = n }))
 
+    same_shard : now.rows ≡ was.rows → now.holder ≡ was.holder → now ≡ was
+    same_shard rows holder = ap (held_by now.holder) rows ∙ ap (λ o. held_by o was.rows) holder
+
     pub room_refused : (why : ReserveRefusal) → Promises c.board was a (Err why) b now → new ≡ record row { seen = length b.log } → Reserves (state_of c) a (Err why) then
-    room_refused (Full limit) told e = (record { can = told.0.1 ∙ told.0.0; is = same_state told.1 told.2 e }, told.0.0)
-    room_refused Memory told e = record { can = tt; is = same_state told.0 told.1 e }
+    room_refused (Full limit) told e = (record { can = told.0.0.1 ∙ told.0.0.0; is = same_state told.0.1 (same_shard told.0.2 told.1) e }, told.0.0.0)
+    room_refused Memory told e = record { can = tt; is = same_state told.0.0 (same_shard told.0.1 told.1) e }

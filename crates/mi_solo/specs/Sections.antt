@@ -45,12 +45,16 @@ leaf_in s a = leaf_or (actor_in s a).claim
 abbrev pub rows_at : State → ℕ → Rows
 rows_at s k = (shard_at s.shards k).rows
 
--- room for one update is taken on the board and in a shard; else the log is full, or memory is wanted
+-- room for one update is taken on the board and among the rows of a shard; else the log is full, or memory is wanted
+abbrev pub PromisesRows : BoardState → Rows → ℕ → Result Look ReserveRefusal → BoardState → Rows → Type 0
+PromisesRows board rows a (Ok look) new left =
+    HasRoom board × (look ≡ look_of new) × (new ≡ with_actor (with_reserved true) a board) × (left ≡ record rows { room = length rows.records + 1 })
+PromisesRows board rows a (Err (refused.Full limit)) new left = IsFull board limit × (new ≡ board) × (left ≡ rows)
+PromisesRows board rows a (Err refused.Memory) new left = (new ≡ board) × (left ≡ rows)
+
+-- the same in a shard, whose holder stays
 abbrev pub Promises : BoardState → Shard → ℕ → Result Look ReserveRefusal → BoardState → Shard → Type 0
-Promises board shard a (Ok look) new kept =
-    HasRoom board × (look ≡ look_of new) × (new ≡ with_actor (with_reserved true) a board) × (kept ≡ held_by shard.holder (record shard.rows { room = length shard.rows.records + 1 }))
-Promises board shard a (Err (refused.Full limit)) new kept = IsFull board limit × (new ≡ board) × (kept ≡ shard)
-Promises board shard a (Err refused.Memory) new kept = (new ≡ board) × (kept ≡ shard)
+Promises board shard a result new kept = PromisesRows board shard.rows a result new kept.rows × (kept.holder ≡ shard.holder)
 
 -- the shard of an identifier is taken, with the identifier's record, or another actor holds it
 abbrev pub ClaimsShard : State → ℕ → ℕ → ShardClaim → State → Type 0

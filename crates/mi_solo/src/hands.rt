@@ -99,6 +99,13 @@ impl Hand {
         drop_route(&mut self.owed, child);
     }
 
+    /// No route is owed any more.
+    pub fn forget(&mut self)
+        ensures { self.new ≡ record self.old { owed = [] } }
+    {
+        self.owed.clear();
+    }
+
     /// Makes the fresh page a root of this level, which pays the child's route.
     pub fn raise(&mut self, level: u32, left: u32, key: Key, child: u32) -> Page
         requires fresh { IsSome self.old.fresh }

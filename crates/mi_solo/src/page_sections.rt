@@ -3,13 +3,13 @@ ghost use Rattle.std.specs.Prelude.{◌≡◌, ◌<◌, ◌≤◌, IsSome, IsTru
 ghost use Rattle.mi_core.specs.Kept.{Kept};
 ghost use Rattle.mi_key.specs.declared.entries.Entry.{Entry};
 ghost use Rattle.mi_solo.specs.Sections.{Trims, Visits, updates_pinned};
-ghost use Rattle.mi_solo.specs.Seeking.{HasSibling, IsMeasured, TrimsTo, offered_of};
+ghost use Rattle.mi_solo.specs.Seeking.{IsMeasured, offered_of};
 ghost use Rattle.mi_solo.specs.States.{IsGoing, actor_in, is_linked, node_in, state_of};
 
 use crate::cores::Core;
+use crate::page_work::sibling;
 use crate::seeking::visit_page;
 use mi_key::{Interval, Sieve};
-use mi_page::Page;
 use mi_world::Visit;
 
 impl Core {
@@ -60,15 +60,4 @@ impl Core {
             next: sibling(node),
         }
     }
-}
-
-/// The right sibling of the page, where it has an end.
-fn sibling(page: &Page) -> Option<u32>
-    requires { HasSibling page.now }
-    ensures { TrimsTo page.now result }
-{
-    let Some(_) = page.high() else {
-        return None;
-    };
-    page.right()
 }

@@ -10,6 +10,7 @@ ghost use Rattle.mi_solo.specs.States.{IsGoing, actor_in, is_linked, state_of, v
 ghost use Rattle.mi_world.specs.Pages.{IsChildAt, MayPost};
 
 use crate::cores::Core;
+use crate::page_work::{put_route, trim_leaf};
 use crate::seeking::{Way, seek};
 use mi_key::Key;
 use mi_page::Page;
@@ -100,26 +101,5 @@ impl Core {
         ensures { state_of self.new ≡ put_page number page (state_of self.old) }
     {
         self.pages[number as usize] = Some(page);
-    }
-}
-
-/// Puts a route into a page of routes, unless it stands there.
-fn put_route(page: &mut Page, key: Key, child: u32)
-    requires inner { 0 < page.old.level }
-    requires few { item_count page.old < 32 }
-    requires inside { IsInside page.old.low page.old.high key }
-    ensures { page.new ≡ post_route key child page.old }
-{
-    if !page.has_route(key) {
-        page.insert_route(key, child);
-    }
-}
-
-/// Takes the entries off a leaf page that are dead at the floor.
-fn trim_leaf(page: &mut Page, floor: u32)
-    ensures { page.new ≡ trim_leaf floor page.old }
-{
-    if page.level() == 0 {
-        page.trim(floor);
     }
 }

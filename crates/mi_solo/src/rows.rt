@@ -195,6 +195,17 @@ impl ActorRow {
         self.lacked = true;
     }
 
+    /// It has ended: it owes nothing, and its flags are those of the one that absorbed it.
+    pub fn end(&mut self)
+        ensures { self.new ≡ record self.old { hand = record self.old.hand { owed = [] }; reserved_here = false; undone = false; early = false; ended = true } }
+    {
+        self.hand.forget();
+        self.reserved_here = false;
+        self.undone = false;
+        self.early = false;
+        self.ended = true;
+    }
+
     /// It has committed an update at the page, which uses what it had reserved.
     pub fn commit(&mut self, board: &Board, page: u32)
         ensures { self.new ≡ record self.old { seen = length board.now.log; reserved = false; reserved_here = false; page = page } }

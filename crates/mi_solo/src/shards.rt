@@ -2,7 +2,7 @@
 ghost use Rattle.std.specs.Prelude.{◌≡◌, ◌<◌, ◌==◌, None, length};
 ghost use Rattle.std.specs.List.{find};
 ghost use Rattle.mi_entries.specs.Records.{held_by, no_shard, with_record, without_id};
-ghost use Rattle.mi_solo.specs.Sections.{Promises};
+ghost use Rattle.mi_solo.specs.Sections.{Promises, PromisesRows};
 ghost use Rattle.mi_solo.specs.Viewing.{record_shown};
 
 use mi_base::{Dists, Id};
@@ -39,6 +39,13 @@ impl ShardRow {
         }
     }
 
+    /// A shard that nobody holds, with these records.
+    pub fn free(rows: ShardRows) -> ShardRow
+        ensures { result ≡ held_by None rows }
+    {
+        ShardRow { holder: None, rows }
+    }
+
     /// The actor that holds the shard.
     pub fn holder(&self) -> Option<u32>
         ensures { result ≡ self.now.holder }
@@ -50,11 +57,7 @@ impl ShardRow {
     pub fn record(&self, id: Id) -> Option<Record>
         ensures { result ≡ record_shown (find (λ x. x.id == id) self.now.rows.records) }
     {
-        let row = self.rows.record(id)?;
-        Some(Record {
-            birth: row.birth,
-            dists: copy_dists(&row.dists),
-        })
+        record_in(&self.rows, id)
     }
 
     /// The shard is this actor's, or nobody's.
@@ -69,26 +72,7 @@ impl ShardRow {
         requires { actor < length board.old.actors }
         ensures { Promises board.old self.old actor result board.new self.new }
     {
-        let limit = board.settings().updates;
-        if board.look().at.updates >= limit {
-            // The board tells that the log is full.
-            return board.reserve(actor);
-        }
-        let promised = self.rows.room();
-        let Ok(()) = self.rows.reserve() else {
-            return Err(ReserveRefusal::Memory);
-        };
-        match board.reserve(actor) {
-            Ok(look) => {
-                let records = self.rows.len();
-                self.rows.promise(records + 1);
-                Ok(look)
-            }
-            Err(refusal) => {
-                self.rows.promise(promised);
-                Err(refusal)
-            }
-        }
+        reserve_in(&mut self.rows, board, actor)
     }
 
     /// Takes a record more, for which there is room. It takes no memory.
@@ -109,6 +93,48 @@ impl ShardRow {
         ensures { self.new ≡ held_by self.old.holder (without_id id self.old.rows) }
     {
         self.rows.remove(id);
+    }
+}
+
+/// The record of an identifier among those of its shard.
+pub fn record_in(rows: &ShardRows, id: Id) -> Option<Record>
+    ensures { result ≡ record_shown (find (λ x. x.id == id) rows.now.records) }
+{
+    let row = rows.record(id)?;
+    Some(Record {
+        birth: row.birth,
+        dists: copy_dists(&row.dists),
+    })
+}
+
+/// Takes room on the board and among the rows of a shard for one update of the actor.
+pub fn reserve_in(
+    rows: &mut ShardRows,
+    board: &mut Board,
+    actor: u32,
+) -> Result<Look, ReserveRefusal>
+    requires { actor < length board.old.actors }
+    ensures { PromisesRows board.old rows.old actor result board.new rows.new }
+{
+    let limit = board.settings().updates;
+    if board.look().at.updates >= limit {
+        // The board tells that the log is full.
+        return board.reserve(actor);
+    }
+    let promised = rows.room();
+    let Ok(()) = rows.reserve() else {
+        return Err(ReserveRefusal::Memory);
+    };
+    match board.reserve(actor) {
+        Ok(look) => {
+            let records = rows.len();
+            rows.promise(records + 1);
+            Ok(look)
+        }
+        Err(refusal) => {
+            rows.promise(promised);
+            Err(refusal)
+        }
     }
 }
 

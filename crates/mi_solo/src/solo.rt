@@ -58,6 +58,15 @@ impl Solo {
         })
     }
 
+    /// The core whose parts are these, in the turn of an actor that hasn't ended.
+    pub fn of_core(alloc: Global, core: Core, turn: u32) -> Solo
+        requires kept { Kept (state_of core) }
+        requires going { IsGoing core turn }
+        ensures { result ≡ record { state = state_of core; turn = turn } }
+    {
+        Solo { alloc, core, turn }
+    }
+
     /// It is this actor's turn, which has seen the whole log then.
     pub fn turn_to(&mut self, actor: u32)
         requires { MayTurn self.old.state actor }
