@@ -66,6 +66,7 @@ module _ (c : State) (a : ℕ) (r : Actor) (was : BoardState) (is : c.board ≡ 
       pin = g.knows.pin;
       count = (let n = g.knows.count in omega (arith, n, one_actor_more, as_many));
       note = record { settings = g.knows.note.settings; allotted = g.knows.note.allotted; given = g.knows.note.given };
+      passed = g.knows.passed;
     };
   }
 
@@ -87,6 +88,7 @@ module _ (c : State) (a : ℕ) (r : Actor) (was : BoardState) (is : c.board ≡ 
       pin = λ p h. absurd (none-some p h);
       count = omega (arith, one_actor_more);
       note = record { settings = ap (λ (x : BoardState). x.settings) is; allotted = omega (arith, ap (λ (x : BoardState). x.allotted) is); given = omega (arith, ap given_in is) };
+      passed = λ p h. absurd (none-some p h);
     };
   }
 

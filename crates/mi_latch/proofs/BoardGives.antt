@@ -7,7 +7,7 @@ use native.Mathlib.Decide.{ℕ_discrete}
 use Rattle.atomic_table.specs.Table.{rest}
 use Rattle.mi_base.specs.Configuration.{Configuration}
 use Rattle.mi_page.specs.Nodes.{Node}
-use Rattle.mi_board.specs.Boards.{BoardState}
+use Rattle.mi_board.specs.Boards.{BoardState, is_passed}
 use Rattle.mi_core.specs.Events.{Can, Event, after}
 use Rattle.mi_core.specs.Kept.{Kept}
 use Rattle.mi_core.specs.Later.{IsLater}
@@ -56,6 +56,7 @@ board_knows c k a m f going e can was board to t is new told =
         allotted = omega (arith, ap (λ (b : BoardState). b.allotted) new);
         given = omega (arith, ap given_in new);
       };
+      passed = λ p h. ap (is_passed p) new;
     }
 
 -- no actor is lost to it

@@ -59,6 +59,7 @@ blend_knows c m t k l = record {
   pin = λ p e. (let n = k.pin p e in let n2 = le-max_left m.part.seen t.part.seen in omega arith);
   count = max-le k.count l.count;
   note = k.note;
+  passed = k.passed;
 }
 
 over_knows : (c : State) (t : Mine) → IsBare t.part → Knows c t → Knows c (over t)
@@ -72,6 +73,7 @@ over_knows c t bare k = record {
   pin = k.pin;
   count = k.count;
   note = k.note;
+  passed = k.passed;
 }
 
 module _ (settings : Configuration) (v w : Sight) (live : v.live ≡ true) (live' : w.live ≡ true) (unborn : v.born ≡ []) (unborn' : w.born ≡ []) (bare : IsBare w.mine.part) where
@@ -195,12 +197,19 @@ leaves settings s t id v there live unborn empty covers homes is =
       held = t.kept;
       values = λ i h. is i (at c i) (all_home at Fits Own Marks made (Held settings) Next (held_keeps settings) fits_made n s t id v there covers empty i h);
       mine = b.records v.actor v.mine (own v live);
+      going = (b.own.mine live).going;
       others = λ x r at_x ne.
           let h = stands_for_all at Fits Own Marks made (Held settings) Next (held_keeps settings) fits_made n s t id v there covers x (slice_get_within c.actors x r at_x) in
           let f = b.records x h.0 h.1 in
           let same : h.0.part ≡ r = same_Some h.0.part r (sym f.part ∙ at_x) in
           ⊎_elim (λ e. absurd (ne (sym e.0)))
           (λ g. subst (λ (y : Actor). y.ended ≡ true) same (b.own.over x h.0 (subst (λ (l : List (ℕ × Mine)). Has (l ++ v.absorbed) x h.0) unborn g)))
+          (subst (λ z. Has (stands_if z ((v.actor, v.mine) ∷ v.born ++ v.absorbed)) x h.0) live h.1);
+      absorbed = λ x m h. b.records x m (more settings c t.kept v live b x m (subst (λ (l : List (ℕ × Mine)). Has (l ++ v.absorbed) x m) (sym unborn) h));
+      all = λ x less.
+          let h = stands_for_all at Fits Own Marks made (Held settings) Next (held_keeps settings) fits_made n s t id v there covers x less in
+          ⊎_elim (λ e. inl (sym e.0))
+          (λ g. inr (h.0, subst (λ (l : List (ℕ × Mine)). Has (l ++ v.absorbed) x h.0) unborn g))
           (subst (λ z. Has (stands_if z ((v.actor, v.mine) ∷ v.born ++ v.absorbed)) x h.0) live h.1);
     }
 

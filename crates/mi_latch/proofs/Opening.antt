@@ -41,6 +41,7 @@ opens_so c limits metric more pages_are = let s : State = opened c 1 more in rec
       pin = λ p h. absurd (none-some p h);
       count = omega arith;
       note = record { settings = refl; allotted = omega arith; given = omega arith };
+      passed = λ p h. refl;
     };
   };
   own = record {

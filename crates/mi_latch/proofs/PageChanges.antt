@@ -2,7 +2,7 @@
 use Rattle.std.proofs.Common.{◌≡◌, ◌≢◌, ℕ, ◌≤◌, true, List, take, sym, ap, ◌∙◌, subst, arith}
 use Rattle.std.specs.Prelude.{slice_set}
 use Rattle.mi_base.specs.Configuration.{Configuration}
-use Rattle.mi_board.specs.Boards.{BoardState}
+use Rattle.mi_board.specs.Boards.{BoardState, is_passed}
 use Rattle.mi_core.specs.Events.{Can, Event, after}
 use Rattle.mi_core.specs.Later.{IsLater}
 use Rattle.mi_core.specs.Named.{IsNamed, Named}
@@ -31,6 +31,7 @@ knows_still c d l board t k = record {
   pin = k.pin;
   count = (let many = l.actors in let n = k.count in omega arith);
   note = subst (λ (b : BoardState). Follows t.note.board b) (sym board) k.note;
+  passed = λ p h. ap (is_passed p) board ∙ k.passed p h;
 }
 
 -- what an actor knows after a section without the board: what it knew, and more pages
@@ -58,6 +59,7 @@ knows_more d m q l k named = record {
   pin = λ p e. (let n = k.pin p (sym l.pin ∙ e) in omega (arith, l.seen));
   count = (let n = k.count in omega (arith, l.count));
   note = subst (λ (b : BoardState). Follows b d.board) (sym l.noted) k.note;
+  passed = λ p e. k.passed p (sym l.claim ∙ e) ∙ ap (is_passed p) (sym l.noted);
 }
 
 module _ (settings : Configuration) (c : State) (held : Held settings c) (v : Sight) (live : v.live ≡ true) (b : Backs at Fits Own c v) (e : Event) (can : Can c v.actor v.mine.part e) where

@@ -18,6 +18,7 @@ use Rattle.mi_latch.specs.Layout.{at}
 use Rattle.mi_latch.specs.Shows.{Backs, Changes, Has, Makes, Writes, stands, stands_if}
 use Rattle.mi_latch.specs.Views.{Fits, Held, Knows, Marks, Mine, Next, Own, Sight, holder_word, made, now}
 use Rattle.mi_latch.proofs.OthersLemmas.{given_on, wanted_same}
+use Rattle.mi_latch.proofs.PassedLemmas.{passed_same}
 use Rattle.mi_latch.proofs.Rules.{has_append, own}
 
 pub fits_made : (c : State) (a : ℕ) (m : Mine) → Fits c a m → a < made c
@@ -58,6 +59,7 @@ stays c k a r there e can next x t apart f same =
           allotted = (let n = f.knows.note.allotted in omega (arith, n, later.allotted));
           given = (let n = f.knows.note.given in omega (arith, n, given_on c k.sound a r there e));
         };
+        passed = λ p h. passed_same c k.sound a r there x t.part f.part apart p h e can ∙ f.knows.passed p h;
       };
     }
 

@@ -89,6 +89,7 @@ knows_part c shards actors m r many seen claim pin k = record {
   pin = λ p h. (let z = k.pin p (sym pin ∙ h) in omega (arith, z, seen));
   count = (let n = k.count in omega (arith, n, many));
   note = record { settings = k.note.settings; allotted = k.note.allotted; given = k.note.given };
+  passed = λ p h. k.passed p (sym claim ∙ h);
 }
 
 -- a shard that is taken is claimed: the event of the take

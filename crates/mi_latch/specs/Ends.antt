@@ -1,5 +1,5 @@
 -- Actors that are made, absorbed, and left at the end.
-use Rattle.std.specs.Prelude.{◌≡◌, ◌≢◌, ◌<◌, true, false, cond, nat_le, max, ℕ, ◌+◌, [], ◌∷◌, ◌++◌, None, Some, length, slice_get}
+use Rattle.std.specs.Prelude.{◌≡◌, ◌≢◌, ◌<◌, ◌⊎◌, true, false, cond, nat_le, max, ℕ, ◌+◌, [], ◌∷◌, ◌++◌, None, Some, length, slice_get}
 use Rattle.atomic_table.specs.Table.{rest}
 use Rattle.mi_base.specs.Configuration.{Configuration}
 use Rattle.mi_board.specs.Boards.{BoardState, with_more}
@@ -10,7 +10,7 @@ use Rattle.mi_core.specs.State.{State}
 use Rattle.mi_latch.specs.declared.slots.Slot.{Slot}
 use Rattle.mi_latch.specs.Boards.{Telling, seeing}
 use Rattle.mi_latch.specs.Layout.{at, slot_count}
-use Rattle.mi_latch.specs.Shows.{known}
+use Rattle.mi_latch.specs.Shows.{Has, HasKey, known}
 use Rattle.mi_latch.specs.Views.{Fits, Held, Mine, Sight}
 
 -- an actor holds nothing
@@ -59,4 +59,8 @@ pub record Leaves (settings : Configuration) (homes : ℕ → Slot) (v : Sight) 
   pub held : Held settings core
   pub values : (i : ℕ) → i < slot_count settings → homes i ≡ at core i
   pub mine : Fits core v.actor v.mine
+  pub going : v.mine.part.ended ≡ false
   pub others : (a : ℕ) (r : Actor) → slice_get core.actors a ≡ Some r → a ≢ v.actor → r.ended ≡ true
+  -- what is kept of each that was absorbed is so, and there is no other actor
+  pub absorbed : (a : ℕ) (m : Mine) → Has v.absorbed a m → Fits core a m
+  pub all : (a : ℕ) → a < length core.actors → (a ≡ v.actor) ⊎ HasKey v.absorbed a

@@ -6,7 +6,7 @@ use Rattle.mi_base.specs.Configuration.{Configuration}
 use Rattle.mi_base.specs.History.{events_at}
 use Rattle.mi_base.specs.declared.settings.MetricKind.TheVariants.{L1}
 use Rattle.mi_board.specs.Actors.{idle}
-use Rattle.mi_board.specs.Boards.{BoardState, opened_board}
+use Rattle.mi_board.specs.Boards.{BoardState, is_passed, opened_board}
 use Rattle.mi_entries.specs.Actors.{Actor, Pin}
 use Rattle.mi_entries.specs.Records.{shard_at}
 use Rattle.mi_core.specs.Events.{Leads, first_actor}
@@ -88,6 +88,8 @@ pub record Knows (c : State) (m : Mine) : Type 0 where
   pub pin : (p : Pin) → m.part.pin ≡ Some p → events_at p.at ≤ m.part.seen
   pub count : m.count ≤ length c.actors
   pub note : Follows m.note.board c.board
+  -- whether the leaf that it claims is passed over, is as it noted: no other actor changes that
+  pub passed : (p : List ℕ) → m.part.claim ≡ Some p → is_passed p c.board ≡ is_passed p m.note.board
 
 -- the core state has the actor's record, and what the actor knows is so
 pub record Fits (c : State) (a : ℕ) (m : Mine) : Type 0 where

@@ -37,7 +37,8 @@ impl LatchTable {
         let Ok((table, seat)) = Table::new(alloc, words.as_slice(), slots, settings) else {
             return Err(NoMemory);
         };
-        Ok((LatchTable { table }, seat))
+        let settings = settings.copy(alloc)?;
+        Ok((LatchTable { table, settings }, seat))
     }
 
     /// The seat of the actor that this seat's actor made last.
@@ -71,7 +72,10 @@ impl LatchTable {
         ensures count { length result.items ≡ self.table.shared.key.pages + 17 }
         ensures leaves { Leaves self.table.shared.key (λ i. slice_index_or result.items i Slot.Vacant) seat.me.0 }
     {
-        let LatchTable { table } = self;
+        let LatchTable {
+            table,
+            settings: _settings,
+        } = self;
         take_all(table.close_with(seat), values)
     }
 }

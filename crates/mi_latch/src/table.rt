@@ -27,8 +27,11 @@ pub type Seat = atomic_table::Seat<Slot, View>;
 #[derive(Drop)]
 pub struct LatchTable {
     pub table: Table<Slot, View, Settings, Latches, Global>,
+    /// The settings of its board, which need no take.
+    pub settings: Settings,
     pub ghost words: { table.shared.table_id.words ≡ table.shared.key.pages + 17 },
     pub ghost slots: { table.shared.table_id.slots ≡ table.shared.key.pages + 17 },
+    pub ghost same: { settings ≡ table.shared.key },
 }
 
 impl LatchTable {
