@@ -1,9 +1,10 @@
 -- A pass that absorbs another.
-use Rattle.std.proofs.Common.{◌≡◌, ℕ, List, [], ◌∷◌, ◌++◌, max, Bool, true, cond, ◌||◌, refl, sym, ap, ◌∙◌, subst, Option, Some, None, inl, inr, ⊎_elim}
+use Rattle.std.proofs.Common.{◌≡◌, ℕ, List, [], ◌∷◌, ◌++◌, max, nat_le, Bool, true, false, cond, ◌||◌, refl, sym, ap, ◌∙◌, subst, Option, Some, None, inl, inr, ⊎_elim, drop}
 use Rattle.std.proofs.lemmas.Option.{none-some, same_Some}
 use Rattle.atomic_table.specs.Table.{rest}
 use Rattle.mi_base.specs.Configuration.{Configuration}
-use Rattle.mi_base.specs.History.{at_position}
+use Rattle.mi_base.specs.declared.records.Position.{Position}
+use Rattle.mi_base.specs.History.{at_position, end_of}
 use Rattle.mi_base.specs.declared.records.LogEvent.{LogEvent}
 use Rattle.mi_board.specs.Boards.{BoardState}
 use Rattle.mi_core.specs.Events.{more_seen}
@@ -26,18 +27,21 @@ use Rattle.mi_solo.specs.declared.rows.ActorRow.{ActorRow}
 use Rattle.mi_solo.specs.Viewing.{pinned_log, swept_leaf}
 use Rattle.mi_tree.specs.Legal.{cells_of}
 use Rattle.mi_world.specs.Families.{Absorbs, ClaimsNothing}
-use Rattle.mi_hall.specs.Passes.{AreNear, HasCells, HasOut, IsPass, row_actor}
+use Rattle.mi_hall.specs.Passes.{AreNear, HasCells, HasOut, IsAt, IsPass, row_actor}
+use Rattle.mi_hall.specs.declared.absorbed.Gone.{Gone}
+use Rattle.mi_hall.specs.Absorbed.{HasGone, ended_row}
 use Rattle.mi_hall.specs.Seats.{seat_view}
+use Rattle.mi_hall.proofs.AbsorbedLemmas.{more_gone}
 use Rattle.mi_hall.proofs.Absorbing.{absorbs_so, either}
 use Rattle.mi_hall.proofs.PassLemmas.{pin_bare}
 
 -- nothing is out with a pass that holds no shard
-none_out : (k : Option ℕ) (rows : Option Rows) (out held : List (ℕ × Slot)) → k ≡ None → HasOut k rows out held → (out ≡ []) × (held ≡ [])
+pub none_out : (k : Option ℕ) (rows : Option Rows) (out held : List (ℕ × Slot)) → k ≡ None → HasOut k rows out held → (out ≡ []) × (held ≡ [])
 none_out (Some k) rows out held e h = absurd (none-some k (sym e))
 none_out None None out held e h = h
 none_out None (Some x) out held e h = absurd h
 
-no_sweep : (o : Option SweepWork) → swept_leaf o ≡ None → o ≡ None
+pub no_sweep : (o : Option SweepWork) → swept_leaf o ≡ None → o ≡ None
 no_sweep None e = refl
 no_sweep (Some w) e = absurd (none-some w.leaf (sym e))
 
@@ -61,6 +65,11 @@ module _ (settings : Configuration) (y : Seated) (a : ℕ) (row : ActorRow) (row
           pin = pin_bare y.0.mine.log y.0.mine.part.pin idle.pin;
         },
       )
+
+-- the end of one of two logs
+end_either : (b : Bool) (x y : List LogEvent) → cond b (end_of x) (end_of y) ≡ end_of (cond b x y)
+end_either true x y = refl
+end_either false x y = refl
 
 -- the seat that took the board, and then took in another
 abbrev with_both : Seated → BoardState → Seated → Seated
@@ -132,3 +141,19 @@ module _ (settings : Configuration) (old m y j : Seated) (b : BoardState) (a : �
         subst (λ (z : Seated). HasCells z.0.mine) (sym new_is)
         (λ q h. (let at : at_position log q.at ≡ at_position old.0.mine.log q.at = same_Some (at_position log q.at) (at_position old.0.mine.log q.at) (ap (pinned_log log) (sym h) ∙ pins ∙ ap (pinned_log old.0.mine.log) h) in
         cells q h ∙ ap (cells_of old.0.mine.note.board.settings) (sym at)))
+
+    -- the end of the longer log is the one of the log that both saw
+    pub absorb_at : (a' : ℕ) (row' : ActorRow) (rows' : Option Rows) (told' : Bool) → IsPass y a' row' rows' told' → (at its made : Position) → IsAt at old.0.mine → IsAt its y.0.mine
+        → made ≡ cond (nat_le row.seen row'.seen) its at → IsAt made new.0.mine
+    absorb_at a' row' rows' told' q at its made mine_at its_at is_made =
+        let here : row.seen ≡ old.0.mine.part.seen = ap (λ (r : Actor). r.seen) (sym p.row_is) in
+        let there : row'.seen ≡ y.0.mine.part.seen = ap (λ (r : Actor). r.seen) (sym q.row_is) in
+        is_made ∙ ap (λ n. cond (nat_le n row'.seen) its at) here ∙ ap (λ n. cond (nat_le old.0.mine.part.seen n) its at) there
+        ∙ ap (λ x. cond (nat_le old.0.mine.part.seen y.0.mine.part.seen) x at) its_at ∙ ap (cond (nat_le old.0.mine.part.seen y.0.mine.part.seen) (end_of y.0.mine.log)) mine_at
+        ∙ end_either (nat_le old.0.mine.part.seen y.0.mine.part.seen) y.0.mine.log old.0.mine.log ∙ ap (λ (z : Seated). end_of z.0.mine.log) (sym new_is)
+    -- the rows of those that the two absorbed are kept, and the other's between them
+    pub absorb_gone : (a' : ℕ) (row' : ActorRow) (rows' : Option Rows) (told' : Bool) (gone other : List Gone) → IsPass y a' row' rows' told' → HasGone old.0.absorbed gone → HasGone y.0.absorbed other
+        → HasGone new.0.absorbed (gone ++ record { actor = a'; row = ended_row row' } ∷ drop 1 other)
+    absorb_gone a' row' rows' told' gone other q mine its =
+        subst (λ (z : Seated). HasGone z.0.absorbed (gone ++ record { actor = a'; row = ended_row row' } ∷ drop 1 other)) (sym new_is)
+        (more_gone old.0.absorbed y.0.absorbed gone other y.0.actor a' y.0.mine row' (sym q.actor_is) q.row_is mine its)

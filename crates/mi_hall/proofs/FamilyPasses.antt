@@ -4,7 +4,7 @@ use Rattle.std.proofs.lemmas.Bool.{false≢true}
 use Rattle.std.proofs.lemmas.Option.{none-some}
 use Rattle.atomic_table.specs.Table.{rest}
 use Rattle.mi_base.specs.Configuration.{Configuration}
-use Rattle.mi_base.specs.History.{at_position}
+use Rattle.mi_base.specs.History.{at_position, end_of}
 use Rattle.mi_base.specs.Prefixes.{has}
 use Rattle.mi_base.specs.declared.records.Position.{Position}
 use Rattle.mi_board.specs.Boards.{BoardState, with_more}
@@ -29,7 +29,9 @@ use Rattle.mi_solo.specs.States.{actor_of}
 use Rattle.mi_tree.specs.Legal.{cells_of}
 use Rattle.mi_world.specs.Families.{Forked}
 use Rattle.mi_hall.specs.Families.{board_out}
-use Rattle.mi_hall.specs.Passes.{AreNear, HasCells, HasWord, IsPass, row_actor}
+use Rattle.mi_hall.specs.Passes.{AreNear, HasCells, HasWord, IsAt, IsPass, row_actor}
+use Rattle.mi_hall.specs.declared.absorbed.Gone.{Gone}
+use Rattle.mi_hall.specs.Absorbed.{HasGone, IsSpare}
 use Rattle.mi_hall.specs.Places.{HoldsRows, IsBacked, forks, fresh_seat}
 use Rattle.mi_hall.specs.Seats.{seat_view}
 use Rattle.mi_hall.proofs.BoardSection.{found_backs}
@@ -130,6 +132,19 @@ module _ (settings : Configuration) (old m : Seated) (b : BoardState) (a : ℕ) 
 
     pub child_cells : (kid : Seated) → kid ≡ (child n.0, []) → HasCells kid.0.mine
     child_cells kid right = subst (λ (z : Seated). HasCells z.0.mine) (sym (child_is kid right)) (λ q h. absurd (none-some q h))
+
+    -- both have seen the whole log
+    pub maker_at : (at : Position) → at ≡ end_of b.log → (new : Seated) → new ≡ (parting n.0, n.1) → IsAt at new.0.mine
+    maker_at at seen new left = seen ∙ ap (λ (z : Seated). end_of z.0.mine.log) (sym (maker_is new left))
+
+    pub child_at : (at : Position) → at ≡ end_of b.log → (kid : Seated) → kid ≡ (child n.0, []) → IsAt at kid.0.mine
+    child_at at seen kid right = seen ∙ ap (λ (z : Seated). end_of z.0.mine.log) (sym (child_is kid right))
+    -- the maker keeps the rows of those that it absorbed; its child has absorbed nobody
+    pub maker_gone : (new : Seated) (gone : List Gone) → new ≡ (parting n.0, n.1) → HasGone old.0.absorbed gone → HasGone new.0.absorbed gone
+    maker_gone new gone left h = subst (λ (z : Seated). HasGone z.0.absorbed gone) (sym (maker_is new left)) h
+
+    pub child_gone : (kid : Seated) (gone : List Gone) → kid ≡ (child n.0, []) → IsSpare gone → HasGone kid.0.absorbed gone
+    child_gone kid gone right h = subst (λ (z : Seated). HasGone z.0.absorbed gone) (sym (child_is kid right)) h
 
 -- an actor that was just made has no fresh page
 pub made_word : (words : ℕ) (maker fresh : ActorRow) → ((c : Configuration) (x : ℕ) → actor_of c [] x fresh ≡ record first_actor { seen = maker.seen; floor = maker.floor }) → Configuration → HasWord words fresh.hand.fresh

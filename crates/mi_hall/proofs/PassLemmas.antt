@@ -7,7 +7,8 @@ use Rattle.atomic_table.specs.Seated.{TableId}
 use Rattle.atomic_table.specs.Table.{rest}
 use Rattle.mi_base.specs.Configuration.{Configuration}
 use Rattle.mi_base.specs.declared.records.LogEvent.{LogEvent}
-use Rattle.mi_base.specs.History.{at_position}
+use Rattle.mi_base.specs.declared.records.Position.{Position}
+use Rattle.mi_base.specs.History.{at_position, end_of}
 use Rattle.mi_board.specs.Boards.{BoardState}
 use Rattle.mi_core.specs.Events.{first_actor}
 use Rattle.mi_entries.specs.Actors.{Actor, Pin}
@@ -22,7 +23,7 @@ use Rattle.mi_page.specs.Nodes.{Node}
 use Rattle.mi_solo.specs.States.{actor_of, pin_of}
 use Rattle.mi_solo.specs.Viewing.{pinned_log}
 use Rattle.mi_world.specs.View.{View}
-use Rattle.mi_hall.specs.Passes.{HasCells, HasOut, HasWord, IsPass, PassState, giving, row_actor, turning}
+use Rattle.mi_hall.specs.Passes.{HasCells, HasOut, HasWord, IsAt, IsPass, PassState, giving, row_actor, turning}
 use Rattle.mi_hall.specs.Places.{HoldsRows}
 use Rattle.mi_hall.specs.Seats.{rows_out, seat_view}
 
@@ -105,3 +106,7 @@ word_stays was table had has stays same h = subst (λ (t : TableId). HasWord t.w
 -- the first pass has none
 pub first_word : (words : ℕ) (row : ActorRow) → ((c : Configuration) (a : ℕ) → actor_of c [] a row ≡ first_actor) → (settings : Configuration) → HasWord words row.hand.fresh
 first_word words row made settings = subst (HasWord words) (sym (ap (λ (r : Actor). r.fresh) (made settings 0))) tt
+
+-- the log that it has seen then ends where that of its next record ends
+pub given_at : (new next : Seated) (at : Position) → new ≡ next → IsAt at next.0.mine → IsAt at new.0.mine
+given_at new next at gave is = is ∙ ap (λ (z : Seated). end_of z.0.mine.log) (sym gave)

@@ -3,5 +3,14 @@ pub mod Leading
 pub mod Seats
 pub mod Places
 pub mod Passes
+pub mod Absorbed
+pub mod Closing
 pub mod Families
 pub mod PageRows
+pub mod Roots
+pub mod ShardHolds
+pub mod WorkRows
+pub mod CommitRows
+pub mod Commits
+pub mod LeafRows
+pub mod GatherRows

@@ -1,6 +1,7 @@
 -- What a pass is: a seat between two calls, with what its actor keeps in code.
 use Rattle.std.specs.Prelude.{◌≡◌, ◌<◌, ℕ, ◌+◌, List, [], ◌∷◌, ◌++◌, Bool, true, Option, Some, None, Result, Ok, Err, length}
 use Rattle.std.specs.Arc.{arc_value}
+use Rattle.mi_base.specs.declared.records.Position.{Position}
 use Rattle.mi_base.specs.declared.refusals.NoMemory.{NoMemory}
 use Rattle.mi_base.specs.History.{at_position, end_of}
 use Rattle.mi_tree.specs.declared.answers.AllotRefusal.{AllotRefusal}
@@ -24,7 +25,10 @@ use Rattle.mi_solo.specs.declared.rows.ActorRow.{ActorRow}
 use Rattle.mi_solo.specs.States.{actor_of}
 use Rattle.atomic_table.specs.Seated.{TableId}
 use Rattle.atomic_table.specs.Table.{rest}
+use Rattle.std.proofs.Common.{refl, sym, ◌∙◌}
+use Rattle.mi_world.specs.View.{View}
 use Rattle.mi_hall.specs.Places.{gives_board, gives_page}
+use Rattle.mi_hall.specs.Seats.{seat_view}
 
 -- what its callers see: what the seat knows, and its table
 pub record PassState : Type 0 where
@@ -94,6 +98,10 @@ turning v row n = gives_page v (row_actor v.mine.note.board.settings v.mine.part
 abbrev pub HasCells : Mine → Type 0
 HasCells m = (p : Pin) → m.part.pin ≡ Some p → p.cells ≡ cells_of m.note.board.settings (at_position m.log p.at)
 
+-- the position is the end of the log that it has seen
+abbrev pub IsAt : Position → Mine → Type 0
+IsAt at m = at ≡ end_of m.log
+
 -- the fresh page in hand has its word in the table
 abbrev pub HasWord : ℕ → Option ℕ → Type 0
 HasWord words None = Unit {0}
@@ -120,3 +128,27 @@ slot_out (x ∷ out) = x.1
 abbrev pub halving_turn : Sight → ActorRow → ℕ → Node → Sight
 halving_turn v row child n =
     gives_page v (row_actor v.mine.note.board.settings v.mine.part row) n (halves_in child (slot_out v.out)) (uppers_in child (slot_out v.out) ++ rest (rest v.out))
+
+-- what its actor has and knows
+abbrev pub place_view : PassState → View
+place_view p = seat_view p.sight
+
+-- it stays at its table
+abbrev pub Stays : PassState → PassState → Type 0
+Stays p q = q.table ≡ p.table
+
+pub stays_none : (p : PassState) → Stays p p
+stays_none p = refl
+
+-- the two are at one table
+abbrev pub IsKin : PassState → PassState → Type 0
+IsKin p q = p.table ≡ q.table
+
+pub stays_kin : (p q : PassState) → Stays p q → IsKin p q
+stays_kin p q h = sym h
+
+pub kin_back : (p q : PassState) → IsKin p q → IsKin q p
+kin_back p q h = sym h
+
+pub kin_on : (p q r : PassState) → IsKin p q → IsKin q r → IsKin p r
+kin_on p q r h k = h ∙ k

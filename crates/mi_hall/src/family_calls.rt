@@ -1,5 +1,5 @@
 //! The making and the ending of actors.
-ghost use Rattle.std.specs.Prelude.{◌≡◌, ◌||◌, ℕ, [], true, IfOk, OnErr, max};
+ghost use Rattle.std.specs.Prelude.{◌≡◌, ◌||◌, ℕ, [], true, cond, nat_le, IfOk, OnErr, max};
 ghost use Rattle.mi_base.specs.Configuration.{Configuration};
 ghost use Rattle.mi_board.specs.Actors.{actor_at};
 ghost use Rattle.mi_board.specs.Boards.{open_count};
@@ -9,9 +9,10 @@ ghost use Rattle.mi_world.specs.Families.{Absorbs, ClaimsNothing, Forked, NotFor
 ghost use Rattle.mi_hall.specs.Families.{Sees};
 ghost use Rattle.mi_hall.specs.Seats.{seat_view};
 
+use crate::absorbed::{keep, spare};
 use crate::passes::{Pass, give_board};
 use crate::places::Place;
-use mi_base::NoMemory;
+use mi_base::{NoMemory, Position};
 use mi_latch::{LatchTable, Slot};
 use mi_solo::rows::ActorRow;
 use std::alloc::Global;
@@ -32,13 +33,22 @@ impl Pass {
         ensures ok { IfOk result (λ child. Forked (seat_view self.old.sight) (seat_view self.new.sight) (seat_view child.sight)) }
         ensures err { OnErr result (NotForked (seat_view self.old.sight) (seat_view self.new.sight)) }
     {
+        let gone = spare(alloc)?;
         let mut board = latches.take_board(rt, &mut self.seat, self.actor);
         let added = board.add_actor();
         self.row.see(&board);
         let Ok(actor) = added else {
-            give_board::<Brand>(latches, &mut self.seat, &self.row, self.told, board);
+            give_board::<Brand>(
+                latches,
+                &mut self.seat,
+                &self.row,
+                self.told,
+                &mut self.at,
+                board,
+            );
             return Err(NoMemory);
         };
+        self.at = board.look().at;
         latches.give::<Brand>(&mut self.seat, 0, Slot::OfBoard(board));
         let seat = latches.split_seat(&mut self.seat);
         Ok(Pass {
@@ -47,6 +57,9 @@ impl Pass {
             row: made_row(alloc, &self.row),
             rows: None,
             told: self.told,
+            at: self.at,
+            alloc: self.alloc,
+            gone,
         })
     }
 
@@ -59,10 +72,13 @@ impl Pass {
     {
         let Pass {
             seat,
-            actor: _actor,
+            actor,
             row,
             rows: _rows,
             told,
+            at,
+            alloc: _alloc,
+            gone,
         } = other;
         let mut seat = seat;
         latches.learn(&mut seat);
@@ -71,8 +87,10 @@ impl Pass {
         latches.join_seat(&mut self.seat, seat);
         latches.learn(&mut self.seat);
         latches.give_board_back(&mut self.seat, board);
+        self.at = longer_end(self.row.seen, self.at, row.seen, at);
         join_rows(&mut self.row, &row);
         self.told = any_told(self.told, told);
+        keep(rt, &mut self.gone, actor, row, gone);
     }
 
     /// Leaves: its actor isn't counted among the open ones any more.
@@ -85,7 +103,14 @@ impl Pass {
         let mut board = latches.take_board(rt, &mut self.seat, self.actor);
         board.depart(self.actor);
         self.row.see(&board);
-        give_board::<Brand>(latches, &mut self.seat, &self.row, self.told, board);
+        give_board::<Brand>(
+            latches,
+            &mut self.seat,
+            &self.row,
+            self.told,
+            &mut self.at,
+            board,
+        );
     }
 
     /// How many of the actors haven't left.
@@ -98,37 +123,19 @@ impl Pass {
         let board = latches.take_board(rt, &mut self.seat, self.actor);
         let count = board.open_actors();
         self.row.see(&board);
-        give_board::<Brand>(latches, &mut self.seat, &self.row, self.told, board);
+        give_board::<Brand>(
+            latches,
+            &mut self.seat,
+            &self.row,
+            self.told,
+            &mut self.at,
+            board,
+        );
         count
     }
 }
 
 impl<'h, R: Wait> Place<'h, R> {
-    /// Another place of the hall, whose actor has seen what this one's has.
-    pub fn fork(&mut self, alloc: Global) -> Result<Place<'h, R>, NoMemory>
-        ensures ok { IfOk result (λ child. Forked (seat_view self.old.sight) (seat_view self.new.sight) (seat_view child.sight)) }
-        ensures kin { IfOk result (λ child. self.new.table ≡ child.table) }
-        ensures err { OnErr result (NotForked (seat_view self.old.sight) (seat_view self.new.sight)) }
-        ensures table { self.new.table ≡ self.old.table }
-    {
-        let hall = self.hall;
-        let rt = self.rt;
-        let pass = self.pass.fork(alloc, rt, &hall.latches)?;
-        Ok(hall.place(rt, pass))
-    }
-
-    /// Ends the other place's actor, which claims nothing. This one has seen what both have.
-    pub fn absorb(&mut self, other: Place<'h, R>)
-        requires kin { self.old.table ≡ other.table }
-        requires idle { ClaimsNothing (seat_view other.sight) }
-        ensures table { self.new.table ≡ self.old.table }
-        ensures told { Absorbs (seat_view self.old.sight) (seat_view other.entry.sight) (seat_view self.new.sight) }
-    {
-        let hall = self.hall;
-        let rt = self.rt;
-        self.pass.absorb(rt, &hall.latches, other.into_pass());
-    }
-
     /// Leaves: the actor isn't counted among the open ones any more.
     pub fn depart(&mut self)
         ensures table { self.new.table ≡ self.old.table }
@@ -168,6 +175,13 @@ fn join_rows(row: &mut ActorRow, other: &ActorRow)
     row.lacked = row.lacked || other.lacked;
     row.undone = row.undone || other.undone;
     row.early = row.early || other.early;
+}
+
+/// The end of the longer of two logs, each with how many events it has.
+fn longer_end(seen: usize, at: Position, other: usize, its: Position) -> Position
+    ensures { result ≡ cond (nat_le seen other) its at }
+{
+    if seen <= other { its } else { at }
 }
 
 /// One of the two was told.

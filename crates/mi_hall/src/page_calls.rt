@@ -16,6 +16,7 @@ use crate::passes::Pass;
 use mi_key::{Interval, Key, Sieve};
 use mi_latch::{Aim, LatchTable, Seat, Slot};
 use mi_page::Page;
+use mi_solo::page_work::{put_route, sibling, trim_leaf};
 use mi_solo::rows::ActorRow;
 use mi_solo::seeking::{Way, seek, visit_page};
 use mi_world::{Parted, Put, Visit};
@@ -23,7 +24,7 @@ use std::marker::Brand;
 use std::sync::Wait;
 
 /// How many entries or routes a page may have.
-const CAPACITY: usize = 32;
+pub(crate) const CAPACITY: usize = 32;
 
 impl Pass {
     /// Reads the page for the interval, once it is free, and offers what it shows at the pin.
@@ -142,18 +143,6 @@ fn post_row(node: &mut Page, row: &mut ActorRow, page: u32, level: u32, key: Key
     }
 }
 
-/// Puts a route into a page of routes, unless it stands there.
-fn put_route(page: &mut Page, key: Key, child: u32)
-    requires inner { 0 < page.old.level }
-    requires few { item_count page.old < 32 }
-    requires inside { IsInside page.old.low page.old.high key }
-    ensures { page.new ≡ post_route key child page.old }
-{
-    if !page.has_route(key) {
-        page.insert_route(key, child);
-    }
-}
-
 /// Takes the entries off the page in hand that are dead at the row's floor.
 fn trim_row(node: &mut Page, row: &mut ActorRow, page: u32) -> Visit
     requires leaf { node.old.level ≡ 0 }
@@ -167,19 +156,14 @@ fn trim_row(node: &mut Page, row: &mut ActorRow, page: u32) -> Visit
     }
 }
 
-/// The right sibling of the page, where it has an end.
-fn sibling(page: &Page) -> Option<u32>
-    requires { HasSibling page.now }
-    ensures { TrimsTo page.now result }
-{
-    let Some(_) = page.high() else {
-        return None;
-    };
-    page.right()
-}
-
 /// Puts a page back, which is the event that leads to this row.
-fn give_page<E: Aim>(latches: &LatchTable, seat: &mut Seat, row: &ActorRow, page: u32, node: Page)
+pub(crate) fn give_page<E: Aim>(
+    latches: &LatchTable,
+    seat: &mut Seat,
+    row: &ActorRow,
+    page: u32,
+    node: Page,
+)
     requires aim { E.next ≡ turning seat.old.me.0 row.now node }
     requires table { (seat.old.table_id ≡ latches.now.table.shared.table_id)
         × (page < latches.now.table.shared.key.pages) }
@@ -206,15 +190,6 @@ fn halve_row(node: &mut Page, row: &mut ActorRow, page: u32) -> Option<Page>
         return None;
     }
     Some(row.hand.halve(node))
-}
-
-/// Takes the entries off a leaf page that are dead at the floor.
-fn trim_leaf(page: &mut Page, floor: u32)
-    ensures { page.new ≡ trim_leaf floor page.old }
-{
-    if page.level() == 0 {
-        page.trim(floor);
-    }
 }
 
 /// Puts the lower half of a page back, which is the event that leads to this row; the upper half
@@ -244,7 +219,7 @@ fn give_lower<E: Aim>(
 }
 
 /// Puts the slot of a page back as it was taken: no event.
-fn give_vacant<E: Aim>(latches: &LatchTable, seat: &mut Seat, page: u32, value: Slot)
+pub(crate) fn give_vacant<E: Aim>(latches: &LatchTable, seat: &mut Seat, page: u32, value: Slot)
     requires aim { E.next ≡ now seat.old.me.0 seat.old.me.0.mine (rest seat.old.me.0.out) }
     requires table { (seat.old.table_id ≡ latches.now.table.shared.table_id)
         × (page < latches.now.table.shared.key.pages) }

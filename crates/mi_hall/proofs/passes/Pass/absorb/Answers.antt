@@ -10,7 +10,8 @@ use Rattle.mi_solo.specs.declared.rows.ActorRow.{ActorRow}
 use Rattle.mi_world.specs.Families.{Absorbs, ClaimsNothing}
 use Rattle.mi_hall.specs.Passes.{AreNear, IsPass, PassState}
 use Rattle.mi_hall.specs.Seats.{seat_view}
-use Rattle.mi_hall.proofs.AbsorbPasses.{absorb_cells, absorb_near, absorb_pass, absorb_told, is_bare, joined_last}
+use Rattle.mi_hall.proofs.AbsorbPasses.{absorb_at, absorb_cells, absorb_near, absorb_pass, absorb_told, is_bare, joined_last, absorb_gone}
+use Rattle.mi_hall.specs.Absorbed.{HasGone}
 use Rattle.mi_hall.proofs.PassLemmas.{told_of, word_stays}
 use Rattle.mi_hall.proofs.passes.Pass.absorb.Goals as goal
 
@@ -45,6 +46,8 @@ invariant_of-self g c =
           (absorb_near key _ _ its _ _ _ _ _ _ p.0 e.took joins _ gave _ p.1 (subst (λ (t : TableId). AreNear t.words its.0.mine.named) one c.other.invariant.1)),
       absorb_cells key _ _ its _ _ _ _ _ _ p.0 e.took joins _ gave e.told c.learn-2.ensures.told p.2,
       word_stays _ _ _ _ stays (ap (λ (z : ActorRow). z.hand.fresh) c.join_rows.ensures) p.3,
+      absorb_at key _ _ its _ _ _ _ _ _ p.0 e.took joins _ gave _ _ _ _ c.other.invariant.0 _ _ _ p.4 c.other.invariant.4 c.longer_end-self-inside.ensures,
+      subst (HasGone c.give_board_back.new.seat.me.0.absorbed) (sym c.keep.ensures) (absorb_gone key _ _ its _ _ _ _ _ _ p.0 e.took joins _ gave _ _ _ _ c.self.inside.gone c.other.inside.gone c.other.invariant.0 p.5 c.other.invariant.5),
     )
 
 pub returns-clause-told : goal.returns-clause-told

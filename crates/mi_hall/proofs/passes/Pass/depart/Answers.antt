@@ -1,5 +1,6 @@
+use Rattle.mi_hall.proofs.AbsorbedLemmas.{kept_gone}
 use Rattle.mi_hall.proofs.DepartCall.{actor_known, depart_cells, depart_does, depart_gone, depart_told}
-use Rattle.mi_hall.proofs.PassLemmas.{given_pass, word_stays}
+use Rattle.mi_hall.proofs.PassLemmas.{given_at, given_pass, word_stays}
 use Rattle.mi_hall.proofs.NamedPages.{board_near}
 use Rattle.mi_board.specs.Boards.{BoardState}
 use Rattle.std.proofs.Common.{ap, ◌∙◌}
@@ -22,6 +23,8 @@ invariant_of-self g c =
       board_near _ _ _ _ _ _ _ _ _ _ _ _ c.self.invariant.0.live e.took e.told c.give_board.ensures.gave (ap (λ (z : BoardState). z.root) c.depart.ensures) c.args.latches.now.words c.self.view_is c.requires.table (c.give_board.ensures.table.0 ∙ e.table.0) c.self.invariant.1,
       depart_cells _ _ _ _ _ _ _ _ c.self.invariant.0 e.took e.told _ _ c.depart.ensures c.see.ensures _ c.give_board.ensures.gave,
       word_stays _ _ _ _ (c.give_board.ensures.table.0 ∙ e.table.0) (ap (λ (z : ActorRow). z.hand.fresh) c.see.ensures) c.self.invariant.3,
+      given_at _ _ _ c.give_board.ensures.gave c.give_board.ensures.at,
+      kept_gone _ _ _ c.give_board.ensures.gave (kept_gone _ _ _ e.took c.self.invariant.5),
     )
 
 pub returns-clause-told : goal.returns-clause-told

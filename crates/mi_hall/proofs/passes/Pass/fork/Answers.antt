@@ -1,17 +1,20 @@
 use Rattle.std.proofs.Common.{ap, subst, sym, ◌∙◌, ◌<◌, ℕ, length}
 use Rattle.atomic_table.specs.Seated.{TableId}
 use Rattle.atomic_table.specs.Table.{rest}
+use Rattle.mi_base.specs.History.{end_of}
 use Rattle.mi_board.specs.Boards.{BoardState}
 use Rattle.mi_latch.specs.declared.slots.Slot.TheVariants.{OfBoard}
 use Rattle.mi_latch.specs.Views.{Doing, Seated}
 use Rattle.mi_solo.specs.declared.rows.ActorRow.{ActorRow}
+use Rattle.mi_tree.specs.declared.answers.Look.{Look}
 use Rattle.mi_world.specs.Families.{Forked}
 use Rattle.mi_hall.specs.Passes.{AreNear, giving}
 use Rattle.mi_hall.specs.Seats.{seat_view}
+use Rattle.mi_hall.proofs.AbsorbedLemmas.{kept_gone}
 use Rattle.mi_hall.proofs.DepartCall.{not_fork_told, see_cells, see_does}
-use Rattle.mi_hall.proofs.FamilyPasses.{child_cells, child_near, child_pass, fork_does, fork_returns, fork_told, made_word, maker_cells, maker_near, maker_pass}
+use Rattle.mi_hall.proofs.FamilyPasses.{child_at, child_cells, child_near, child_pass, fork_does, fork_returns, fork_told, made_word, maker_at, maker_cells, maker_near, maker_pass, child_gone, maker_gone}
 use Rattle.mi_hall.proofs.NamedPages.{board_near}
-use Rattle.mi_hall.proofs.PassLemmas.{given_pass, pass_rows, told_of, word_stays}
+use Rattle.mi_hall.proofs.PassLemmas.{given_at, given_pass, pass_rows, told_of, word_stays}
 use Rattle.mi_hall.proofs.passes.Pass.fork.Goals as goal
 
 pub give_board-requires-clause-last : goal.give_board-requires-clause-last
@@ -38,6 +41,8 @@ invariant_of-self g c =
       board_near _ _ _ _ _ _ _ _ _ _ _ _ c.self.invariant.0.live e.took e.told c.give_board.ensures.gave (ap (λ (z : BoardState). z.root) c.in_default.ensures) c.args.latches.now.words c.self.view_is c.requires.table (c.give_board.ensures.table.0 ∙ e.table.0) c.self.invariant.1,
       see_cells _ _ _ _ _ _ _ _ c.self.invariant.0 e.took e.told row made _ gave,
       word_stays _ _ _ _ (c.give_board.ensures.table.0 ∙ e.table.0) (ap (λ (z : ActorRow). z.hand.fresh) c.see.ensures) c.self.invariant.3,
+      given_at _ _ _ c.give_board.ensures.gave c.give_board.ensures.at,
+      kept_gone _ _ _ c.give_board.ensures.gave (kept_gone _ _ _ e.took c.self.invariant.5),
     )
 
 pub returns-in_default-clause-err : goal.returns-in_default-clause-err
@@ -69,6 +74,8 @@ invariant_of-result g c =
           (subst (λ (t : TableId). AreNear t.words c.self.inside.seat.me.0.mine.named) (sym (c.split_seat-seat.ensures.table.2 ∙ c.give.ensures.table.0 ∙ e.table.0)) c.self.invariant.1),
       child_cells _ _ _ _ _ _ _ _ c.self.invariant.0 e.took e.told _ c.give.ensures.gave _ c.split_seat-seat.ensures.right,
       made_word _ c.see.new.self c.made_row.result c.made_row.ensures c.args.latches.now.table.shared.key,
+      child_at _ _ _ _ _ _ _ _ c.self.invariant.0 e.took e.told _ c.give.ensures.gave _ (ap (λ (z : Look). z.at) c.look.ensures ∙ ap (λ (z : BoardState). end_of z.log) n.1.1) _ c.split_seat-seat.ensures.right,
+      child_gone _ _ _ _ _ _ _ _ c.self.invariant.0 e.took e.told _ c.give.ensures.gave _ _ c.split_seat-seat.ensures.right c.in_ok-gone.ensures,
     )
 
 pub invariant_of-self-2 : goal.invariant_of-self-2
@@ -82,6 +89,8 @@ invariant_of-self-2 g c =
           (subst (λ (t : TableId). AreNear t.words c.self.inside.seat.me.0.mine.named) (sym stays) c.self.invariant.1),
       maker_cells _ _ _ _ _ _ _ _ c.self.invariant.0 e.took e.told _ c.give.ensures.gave _ c.split_seat-seat.ensures.left,
       word_stays _ _ _ _ stays (ap (λ (z : ActorRow). z.hand.fresh) c.see.ensures) c.self.invariant.3,
+      maker_at _ _ _ _ _ _ _ _ c.self.invariant.0 e.took e.told _ c.give.ensures.gave _ (ap (λ (z : Look). z.at) c.look.ensures ∙ ap (λ (z : BoardState). end_of z.log) n.1.1) _ c.split_seat-seat.ensures.left,
+      maker_gone _ _ _ _ _ _ _ _ c.self.invariant.0 e.took e.told _ c.give.ensures.gave _ _ c.split_seat-seat.ensures.left c.self.invariant.5,
     )
 
 pub returns-clause-ok : goal.returns-clause-ok

@@ -1,8 +1,9 @@
 use Rattle.std.proofs.Common.{ap, refl, sym, ◌∙◌}
 use Rattle.mi_board.specs.Boards.{open_count}
 use Rattle.mi_latch.specs.Views.{Seated}
+use Rattle.mi_hall.proofs.AbsorbedLemmas.{kept_gone}
 use Rattle.mi_hall.proofs.DepartCall.{see_cells, see_does, see_told}
-use Rattle.mi_hall.proofs.PassLemmas.{given_pass, word_stays}
+use Rattle.mi_hall.proofs.PassLemmas.{given_at, given_pass, word_stays}
 use Rattle.mi_hall.proofs.NamedPages.{board_near}
 use Rattle.mi_solo.specs.declared.rows.ActorRow.{ActorRow}
 use Rattle.mi_hall.proofs.passes.Pass.open_actors.Goals as goal
@@ -20,6 +21,8 @@ invariant_of-self g c =
       board_near _ _ _ _ _ _ _ _ _ _ _ _ c.self.invariant.0.live e.took e.told c.give_board.ensures.gave refl c.args.latches.now.words c.self.view_is c.requires.table (c.give_board.ensures.table.0 ∙ e.table.0) c.self.invariant.1,
       see_cells _ _ _ _ _ _ _ _ c.self.invariant.0 e.took e.told _ c.see.ensures _ c.give_board.ensures.gave,
       word_stays _ _ _ _ (c.give_board.ensures.table.0 ∙ e.table.0) (ap (λ (z : ActorRow). z.hand.fresh) c.see.ensures) c.self.invariant.3,
+      given_at _ _ _ c.give_board.ensures.gave c.give_board.ensures.at,
+      kept_gone _ _ _ c.give_board.ensures.gave (kept_gone _ _ _ e.took c.self.invariant.5),
     )
 
 pub returns-clause-told : goal.returns-clause-told

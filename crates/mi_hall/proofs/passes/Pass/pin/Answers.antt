@@ -1,7 +1,8 @@
+use Rattle.mi_hall.proofs.AbsorbedLemmas.{kept_gone}
 use Rattle.mi_hall.proofs.PinCall.{pins_cells, pin_free, pin_known, pins_does, pins_hand, pins_root, pins_shard, pins_told}
 use Rattle.std.proofs.Common.{◌∙◌}
 use Rattle.mi_hall.proofs.NamedPages.{board_near}
-use Rattle.mi_hall.proofs.PassLemmas.{given_pass, word_stays}
+use Rattle.mi_hall.proofs.PassLemmas.{given_at, given_pass, word_stays}
 use Rattle.mi_hall.proofs.passes.Pass.pin.Goals as goal
 
 pub pin_row-result-requires-clause-known : goal.pin_row-result-requires-clause-known
@@ -23,6 +24,8 @@ invariant_of-self g c =
       board_near _ _ _ _ _ _ _ _ _ _ _ _ c.self.invariant.0.live e.took e.told c.give_board.ensures.gave (pins_root _ _ _ _ _ _ _ _ c.self.invariant.0 e.took e.told _ _ c.self.view_is c.requires.free _ _ c.pin_row-result.result c.pin_row-result.ensures) c.args.latches.now.words c.self.view_is c.requires.table (c.give_board.ensures.table.0 ∙ e.table.0) c.self.invariant.1,
       pins_cells _ _ _ _ _ _ _ _ c.self.invariant.0 e.took e.told _ _ c.self.view_is c.requires.free _ _ c.pin_row-result.result c.pin_row-result.ensures _ c.give_board.ensures.gave,
       word_stays _ _ _ _ (c.give_board.ensures.table.0 ∙ e.table.0) (pins_hand _ _ _ _ _ _ _ _ c.self.invariant.0 e.took e.told _ _ c.self.view_is c.requires.free _ _ c.pin_row-result.result c.pin_row-result.ensures) c.self.invariant.3,
+      given_at _ _ _ c.give_board.ensures.gave c.give_board.ensures.at,
+      kept_gone _ _ _ c.give_board.ensures.gave (kept_gone _ _ _ e.took c.self.invariant.5),
     )
 
 pub returns-clause-told : goal.returns-clause-told

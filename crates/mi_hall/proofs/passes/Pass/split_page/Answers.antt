@@ -8,8 +8,9 @@ use Rattle.mi_world.specs.Pages.{PartsPage}
 use Rattle.mi_hall.specs.PageRows.{HalvesRow}
 use Rattle.mi_hall.specs.Passes.{AreNear, HasWord, PassState}
 use Rattle.mi_hall.specs.Seats.{seat_view}
+use Rattle.mi_hall.proofs.AbsorbedLemmas.{kept_gone}
 use Rattle.mi_hall.proofs.PageSection.{named_before, named_here}
-use Rattle.mi_hall.proofs.PassLemmas.{told_of, word_stays}
+use Rattle.mi_hall.proofs.PassLemmas.{given_at, told_of, word_stays}
 use Rattle.mi_hall.proofs.SplitCall.{halve_level, halves_cells, halves_pass, lower_does, lower_returns, parted_ends, parted_near, parted_told, roomy_does, roomy_ends, roomy_near, roomy_told, taken, upper_last}
 use Rattle.mi_hall.proofs.passes.Pass.split_page.Goals as goal
 
@@ -58,6 +59,8 @@ invariant_of-self g c =
       subst (λ (k : TableId). AreNear k.words c.give_vacant.new.seat.me.0.mine.named) (sym (c.give_vacant.ensures.table.0 ∙ c.give_page.ensures.table.0 ∙ d.table.0 ∙ e.table.0)) (roomy_near _ c.self.inside.seat.me c.args.page c.in-Some.child c.take_page-node.result _ c.self.inside.row _ _ c.self.invariant.0 fr t.found t.apart c.halve_row.new.row c.halve_row.new.node hd c.give_vacant.new.seat.me ends _ (ap (λ (k : TableId). k.words) x.0 ∙ c.args.latches.now.words) c.self.invariant.1),
       halves_cells _ c.self.inside.seat.me c.args.page c.in-Some.child c.take_page-node.result _ c.self.inside.row _ _ c.self.invariant.0 fr t.found t.apart c.give_vacant.new.seat.me c.halve_row.new.row c.halve_row.new.node _ ends (ap (λ z. z.pin) hd.2) c.self.invariant.2,
       word_stays _ _ _ _ (c.give_vacant.ensures.table.0 ∙ c.give_page.ensures.table.0 ∙ d.table.0 ∙ e.table.0) (ap (λ z. z.hand.fresh) hd.2) c.self.invariant.3,
+      given_at _ _ _ ends c.self.invariant.4,
+      kept_gone _ _ _ ends c.self.invariant.5,
     )
 
 pub returns-in_default-halve_row-clause-told : goal.returns-in_default-halve_row-clause-told
@@ -116,6 +119,8 @@ invariant_of-self-2 g c =
       subst (λ (k : TableId). AreNear k.words c.give_page_back.new.seat.me.0.mine.named) (sym (c.give_page_back.ensures.table.0 ∙ c.give_lower.ensures.table.0 ∙ d.table.0 ∙ e.table.0)) (parted_near _ c.self.inside.seat.me c.args.page c.in-Some.child c.take_page-node.result _ c.self.inside.row _ _ c.self.invariant.0 fr t.found t.apart c.halve_row.new.row c.in-Some-halve_row.upper c.halve_row.new.node hd c.take_page-node.new.seat.me t.is d.last c.give_page_back.new.seat.me ends _ (ap (λ (k : TableId). k.words) x.0 ∙ c.args.latches.now.words) c.self.invariant.3 c.self.invariant.1),
       halves_cells _ c.self.inside.seat.me c.args.page c.in-Some.child c.take_page-node.result _ c.self.inside.row _ _ c.self.invariant.0 fr t.found t.apart c.give_page_back.new.seat.me c.halve_row.new.row c.halve_row.new.node (halves_named c.in-Some.child c.take_page-node.result ++ names_of c.take_page-node.result) ends (ap (λ z. z.pin) hd.1.row_is) c.self.invariant.2,
       subst (HasWord c.give_page_back.new.seat.table_id.words) (sym (ap (λ z. z.hand.fresh) hd.1.row_is)) tt,
+      given_at _ _ _ ends c.self.invariant.4,
+      kept_gone _ _ _ ends c.self.invariant.5,
     )
 
 pub returns-clause-told : goal.returns-clause-told

@@ -1,7 +1,8 @@
 use Rattle.std.proofs.Common.{◌∙◌, ap}
+use Rattle.mi_hall.proofs.AbsorbedLemmas.{kept_gone}
 use Rattle.mi_hall.proofs.UnpinCall.{unpin_cells, unpin_does, unpin_known, unpin_pins, unpin_told}
 use Rattle.mi_hall.proofs.NamedPages.{board_near}
-use Rattle.mi_hall.proofs.PassLemmas.{given_pass, word_stays}
+use Rattle.mi_hall.proofs.PassLemmas.{given_at, given_pass, word_stays}
 use Rattle.mi_hall.proofs.passes.Pass.unpin.Goals as goal
 
 pub unpin-requires-clause-known : goal.unpin-requires-clause-known
@@ -23,6 +24,8 @@ invariant_of-self g c =
       board_near _ _ _ _ _ _ _ _ _ _ _ _ c.self.invariant.0.live e.took e.told c.give_board.ensures.gave (ap (λ z. z.root) c.unpin.ensures) c.args.latches.now.words c.self.view_is c.requires.table (c.give_board.ensures.table.0 ∙ e.table.0) c.self.invariant.1,
       unpin_cells _ _ _ _ _ _ _ _ c.self.invariant.0 e.took e.told _ _ c.self.view_is c.requires.pinned _ _ c.unpin.ensures c.unpin-2.ensures _ c.give_board.ensures.gave,
       word_stays _ _ _ _ (c.give_board.ensures.table.0 ∙ e.table.0) (ap (λ z. z.hand.fresh) c.unpin-2.ensures) c.self.invariant.3,
+      given_at _ _ _ c.give_board.ensures.gave c.give_board.ensures.at,
+      kept_gone _ _ _ c.give_board.ensures.gave (kept_gone _ _ _ e.took c.self.invariant.5),
     )
 
 pub returns-clause-told : goal.returns-clause-told

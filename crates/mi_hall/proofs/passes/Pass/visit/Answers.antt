@@ -1,7 +1,8 @@
 use Rattle.std.proofs.Common.{◌∙◌, ap, refl, subst, sym}
 use Rattle.atomic_table.specs.Seated.{TableId}
 use Rattle.mi_hall.specs.Passes.{AreNear}
-use Rattle.mi_hall.proofs.PassLemmas.{turned_cells, word_stays}
+use Rattle.mi_hall.proofs.AbsorbedLemmas.{kept_gone}
+use Rattle.mi_hall.proofs.PassLemmas.{given_at, turned_cells, word_stays}
 use Rattle.mi_hall.proofs.PageSection.{named_before, named_here, noted_does, sibling_here, turned_near, turned_pass}
 use Rattle.mi_hall.proofs.VisitCall.{visit_low, visit_offers, visit_takes, visit_told}
 use Rattle.mi_hall.proofs.passes.Pass.visit.Goals as goal
@@ -38,6 +39,8 @@ invariant_of-self g c =
           (turned_near _ _ _ _ _ _ _ _ _ c.self.invariant.0 e.took e.told c.give_page.new.seat.me c.note.new.self c.take_page-node.result c.give_page.ensures.gave _ (ap (λ (t : TableId). t.words) x.0 ∙ c.args.latches.now.words) c.self.invariant.1),
       turned_cells _ _ c.give_page.new.seat.me _ _ c.note.new.self _ _ _ c.take_page-node.result c.take_page-node.result c.self.invariant.0 c.self.invariant.2 e.took c.give_page.ensures.gave (ap (λ z. z.pin) c.note.ensures),
       word_stays _ _ c.self.inside.row.hand.fresh c.note.new.self.hand.fresh (c.give_page.ensures.table.0 ∙ e.table.0) (ap (λ z. z.hand.fresh) c.note.ensures) c.self.invariant.3,
+      given_at _ _ _ c.give_page.ensures.gave (given_at _ _ _ e.took c.self.invariant.4),
+      kept_gone _ _ _ c.give_page.ensures.gave (kept_gone _ _ _ e.took c.self.invariant.5),
     )
 
 pub returns-clause-told : goal.returns-clause-told

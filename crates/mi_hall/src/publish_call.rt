@@ -1,0 +1,77 @@
+//! A seat's section of the board that enters a split into the log.
+ghost use Rattle.std.specs.Prelude.{◌≡◌, length};
+ghost use Rattle.mi_world.specs.Splits.{IsGathered, Publishes};
+ghost use Rattle.mi_hall.specs.Seats.{seat_view};
+ghost use Rattle.mi_hall.specs.WorkRows.{MayEnter, PublishesRow};
+
+use crate::passes::{Pass, give_board};
+use mi_base::{NoMemory, Position};
+use mi_board::Board;
+use mi_latch::LatchTable;
+use mi_solo::placing::placed_objects;
+use mi_solo::rows::ActorRow;
+use std::alloc::Global;
+use std::marker::Brand;
+use std::sync::Wait;
+
+impl Pass {
+    /// Enters the split of the claimed leaf into the log, which ends the claim, once the board is
+    /// free.
+    pub(crate) fn publish<R: Wait>(
+        &mut self,
+        rt: &R,
+        latches: &LatchTable,
+        alloc: Global,
+    ) -> Result<Position, NoMemory>
+        requires table { self.old.table ≡ latches.now.table.shared.table_id }
+        requires leaf { IsGathered (seat_view self.old.sight) }
+        requires all { (seat_view self.old.sight).copied
+            ≡ length (seat_view self.old.sight).copies }
+        ensures table { self.new.table ≡ self.old.table }
+        ensures told { Publishes (seat_view self.old.sight) (seat_view self.new.sight) result }
+    {
+        let mut board = latches.take_board(rt, &mut self.seat, self.actor);
+        let result = publish_row(alloc, self.actor, &mut board, &mut self.row);
+        give_board::<Brand>(
+            latches,
+            &mut self.seat,
+            &self.row,
+            self.told,
+            &mut self.at,
+            board,
+        );
+        result
+    }
+}
+
+/// Enters the split of the row, and ends its claim.
+fn publish_row(
+    alloc: Global,
+    actor: u32,
+    board: &mut Board,
+    row: &mut ActorRow,
+) -> Result<Position, NoMemory>
+    requires { MayEnter actor board.old row.old }
+    ensures { PublishesRow actor board.old row.old result board.new row.new }
+{
+    let Some(work) = &row.split else {
+        unreachable!();
+    };
+    let objects = match placed_objects(alloc, &work.gathered) {
+        Ok(objects) => objects,
+        Err(refusal) => {
+            row.see(board);
+            return Err(refusal);
+        }
+    };
+    match board.publish(alloc, actor, &objects) {
+        Ok(position) => {
+            row.end_split(board);
+            Ok(position)
+        }
+        Err(refusal) => {
+            row.see(board);
+            Err(refusal)
+        }
+    }
+}
