@@ -151,6 +151,7 @@ module _ (settings : Configuration) (old m y j : Seated) (b : BoardState) (a : �
         is_made ∙ ap (λ n. cond (nat_le n row'.seen) its at) here ∙ ap (λ n. cond (nat_le old.0.mine.part.seen n) its at) there
         ∙ ap (λ x. cond (nat_le old.0.mine.part.seen y.0.mine.part.seen) x at) its_at ∙ ap (cond (nat_le old.0.mine.part.seen y.0.mine.part.seen) (end_of y.0.mine.log)) mine_at
         ∙ end_either (nat_le old.0.mine.part.seen y.0.mine.part.seen) y.0.mine.log old.0.mine.log ∙ ap (λ (z : Seated). end_of z.0.mine.log) (sym new_is)
+
     -- the rows of those that the two absorbed are kept, and the other's between them
     pub absorb_gone : (a' : ℕ) (row' : ActorRow) (rows' : Option Rows) (told' : Bool) (gone other : List Gone) → IsPass y a' row' rows' told' → HasGone old.0.absorbed gone → HasGone y.0.absorbed other
         → HasGone new.0.absorbed (gone ++ record { actor = a'; row = ended_row row' } ∷ drop 1 other)

@@ -139,6 +139,7 @@ module _ (settings : Configuration) (old m : Seated) (b : BoardState) (a : ℕ) 
 
     pub child_at : (at : Position) → at ≡ end_of b.log → (kid : Seated) → kid ≡ (child n.0, []) → IsAt at kid.0.mine
     child_at at seen kid right = seen ∙ ap (λ (z : Seated). end_of z.0.mine.log) (sym (child_is kid right))
+
     -- the maker keeps the rows of those that it absorbed; its child has absorbed nobody
     pub maker_gone : (new : Seated) (gone : List Gone) → new ≡ (parting n.0, n.1) → HasGone old.0.absorbed gone → HasGone new.0.absorbed gone
     maker_gone new gone left h = subst (λ (z : Seated). HasGone z.0.absorbed gone) (sym (maker_is new left)) h

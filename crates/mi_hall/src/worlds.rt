@@ -87,7 +87,8 @@ impl<'h, R: Wait> World for Place<'h, R> {
 
     fn commit_delete(&mut self, page: u32, op: u32, id: Id) -> Commit {
         let hall = self.hall;
-        self.pass.commit_delete(self.rt, &hall.latches, page, op, id)
+        self.pass
+            .commit_delete(self.rt, &hall.latches, page, op, id)
     }
 
     fn fresh(&self) -> bool {
