@@ -1,4 +1,5 @@
 pub mod Entries
+pub mod Headlines
 pub mod InOrder
 pub mod Moving
 pub mod Outcomes

@@ -3,6 +3,7 @@ use Rattle.std.specs.Prelude.{◌≡◌, ◌<◌, ◌≤◌, ◌||◌, ◌++◌,
 use Rattle.std.specs.List.{list_any}
 use Rattle.mi_base.specs.declared.refusals.NoMemory.{NoMemory}
 use Rattle.mi_base.specs.declared.records.Op.{Op}
+use Rattle.mi_base.specs.declared.records.Reply.{Reply}
 use Rattle.mi_base.specs.declared.records.ScheduleItem.{ScheduleItem}
 use Rattle.mi_base.specs.Configuration.{Configuration}
 use Rattle.mi_base.specs.History.{live, updates_of}
@@ -68,3 +69,13 @@ pub record IsLeft (n pages : ℕ) (s : State) (seats : List Seat) (x : SplitterS
 -- the same of a table
 abbrev pub IsLeftBy : ℕ → ℕ → Table → Outcome → Type 0
 IsLeftBy n pages t o = IsLeft n pages t.solo.state t.seats.items t.splitter o
+
+-- an outcome that tells of a core and of these replies; it is short where an answer is missing, or where more was wanted
+pub record IsOutcomeOf (s : State) (replies : List (List Reply)) (more : Bool) (pages : ℕ) (o : Outcome) : Type 0 where
+  pub log_is : o.log ≡ s.board.log
+  pub cells_are : o.cells ≡ cells_of s.board.settings s.board.log
+  pub entries_are : o.entries ≡ total entries_on s.pages
+  pub allotted_is : o.allotted ≡ s.board.allotted
+  pub limit_is : o.limit ≡ pages
+  pub replies_are : o.replies ≡ replies
+  pub short_is : o.short ≡ (has_memory replies || more)

@@ -6,7 +6,7 @@ ghost use Rattle.mi_base.specs.Configuration.{metric_space};
 ghost use Rattle.mi_base.specs.Scripts.{IsScriptOver};
 ghost use Rattle.mi_legal.specs.Want.{has_memory, is_memory};
 ghost use Rattle.mi_legal.specs.Work.{AllTakeSteps};
-ghost use Rattle.mi_replay.specs.Outcomes.{IsLeftBy, Played, SameButSeen, lacks_page};
+ghost use Rattle.mi_replay.specs.Outcomes.{IsLeftBy, IsOutcomeOf, Played, SameButSeen, lacks_page};
 ghost use Rattle.mi_replay.specs.Settling.{is_refused};
 ghost use Rattle.mi_replay.specs.Tables.{IsItemOver, IsOver, Waits};
 ghost use Rattle.mi_solo.specs.States.{actor_in};
@@ -115,18 +115,31 @@ fn outcome(alloc: Global, table: Table, scripts: &[Script], pages: u32) -> Resul
     let settled = settle(alloc, &mut solo);
     let unsettled = lacks_split(&splitter, &settled);
     let replies = transcript(alloc, seats)?;
+    let mut outcome = outcome_of(alloc, &solo, replies, unsettled, pages)?;
+    outcome.short |= lacks_page(&mut solo, actor + 1);
+    Ok(outcome)
+}
+
+/// What a core tells beside these replies. It is short where an answer is missing, or where more was
+/// wanted.
+pub fn outcome_of(
+    alloc: Global,
+    solo: &Solo,
+    replies: Transcript,
+    more: bool,
+    pages: u32,
+) -> Result<Outcome, NoMemory>
+    ensures { IfOk result (IsOutcomeOf solo.now.state replies more pages) }
+{
     let log = copy_log(alloc, solo.log())?;
     let cells = copy_cells(alloc, solo.catalog())?;
-    let entries = solo.entries();
-    let allotted = solo.allotted();
-    let lacked = lacks_page(&mut solo, actor + 1);
     Ok(Outcome {
-        short: is_short(&replies, lacked, unsettled),
+        short: lacks_answer(&replies) || more,
         replies,
         log,
         cells,
-        entries,
-        allotted,
+        entries: solo.entries(),
+        allotted: solo.allotted(),
         limit: pages,
     })
 }
@@ -193,13 +206,6 @@ fn copy_cells(alloc: Global, catalog: &Catalog) -> Result<Leaves, NoMemory>
         cells.push(catalog.leaf(place).copy())?;
     }
     Ok(cells)
-}
-
-/// An answer is missing for want of memory, or a page, or a split was given up.
-fn is_short(replies: &Transcript, lacked: bool, unsettled: bool) -> bool
-    ensures { result ≡ (has_memory replies.now || (lacked || unsettled)) }
-{
-    lacks_answer(replies) || lacked || unsettled
 }
 
 /// A split was given up for want of memory, while scripts ran or after.
