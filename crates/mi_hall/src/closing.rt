@@ -32,6 +32,7 @@ const SHARDS: usize = 16;
 const BEFORE: usize = 17;
 
 /// A hall that was not closed, with the pass that would have closed it.
+#[derive(Drop)]
 pub struct HallBack {
     pub hall: Hall,
     pub pass: Pass,

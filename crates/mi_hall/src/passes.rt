@@ -31,6 +31,7 @@ use std::sync::ledger::{Blank, Ledger};
 /// the shard that it holds, whether it was told that all pages are allotted, the end of the log that
 /// it has seen, the allocator of what it gathers, and the rows of the actors that were absorbed into
 /// it, after a spare place.
+#[derive(Drop)]
 pub struct Pass {
     pub(crate) seat: Seat,
     pub(crate) actor: u32,

@@ -62,6 +62,7 @@ fn has_page(settings: &Settings)
 }
 
 /// One actor of the hall. Its calls wait while others have what they need.
+#[derive(Drop)]
 pub struct Place<'h, R: Wait> {
     pub(crate) hall: &'h Hall,
     pub(crate) rt: &'h R,
