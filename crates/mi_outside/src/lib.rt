@@ -3,6 +3,7 @@
 
 mod folder;
 mod gates;
+mod holding;
 mod memory_files;
 mod memory_sink;
 mod reading;
@@ -10,6 +11,7 @@ mod steady;
 mod writing;
 
 pub use gates::{Gate, GatePoint, OpenGate};
+pub use holding::HoldGate;
 pub use memory_files::MemoryFiles;
 pub use memory_sink::MemorySink;
 pub use reading::{Files, ReadRefusal};

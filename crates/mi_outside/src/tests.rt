@@ -74,3 +74,50 @@ fn nothing_stops_a_steady_sink_or_an_open_gate(rt: HostRuntime) {
     assert_eq!(rt; send(&mut out, &[b"heads", b"", b" up"]), Ok(()));
     step(&OpenGate::new());
 }
+
+/// Actor 2 is held before its second operation, until actor 1 has ended its first.
+fn holding(turns: u64) -> HoldGate {
+    let at = GatePoint::Begin { op: 2 };
+    let until = GatePoint::End { op: 1 };
+    HoldGate::new(2, at, 1, until, turns)
+}
+
+#[test]
+fn one_is_held_until_another_has_passed_or_the_turns_are_over(rt: HostRuntime) {
+    let ends = GatePoint::End { op: 1 };
+    let starts = GatePoint::Begin { op: 2 };
+
+    // Who passes, and whether the hold was met then.
+    let walks: [(u64, &[(u32, GatePoint, bool)]); 4] = [
+        (
+            3,
+            &[
+                (1, starts, false),
+                (2, ends, false),
+                (2, starts, false),
+                (1, ends, false),
+            ],
+        ),
+        (
+            3,
+            &[
+                (1, ends, false),
+                (2, ends, false),
+                (2, starts, true),
+                (2, starts, true),
+            ],
+        ),
+        (0, &[(1, ends, false), (2, starts, true)]),
+        (
+            3,
+            &[(2, starts, false), (1, ends, false), (2, starts, false)],
+        ),
+    ];
+    for (turns, walk) in walks {
+        let gate = holding(turns);
+        for (actor, point, met) in walk {
+            gate.pass(*actor, *point);
+            assert_eq!(rt; gate.met(), *met);
+        }
+    }
+}
