@@ -36,6 +36,7 @@ use Rattle.mi_tree.proofs.ListLemmas.{all_joined}
 use Rattle.mi_world.specs.View.{View}
 use Rattle.mi_replay.specs.declared.seats.Seat.{Seat}
 use Rattle.mi_replay.specs.declared.splitters.SplitterSeat.{SplitterSeat}
+use Rattle.mi_replay.specs.Headlines.{Headline}
 use Rattle.mi_replay.specs.InOrder.{AllBy, BeginsWork, GivesUpRightly, InOrder, IsOutcomeIn, SessionInOrder, rounds}
 use Rattle.mi_replay.specs.Moving.{MakeCalls}
 use Rattle.mi_replay.specs.Outcomes.{IsLeft, Played, lacks_page}
@@ -148,6 +149,14 @@ module _ (c : Configuration) (o : Outcome) (n : ℕ) where
         λ is. rightly u.event (λ up. short (mine false is up)) (λ up. full (mine true is up)),
         given_up_rightly us (λ up. short (or_right (gave_up n false u) (list_any (gave_up n false) us) up)) (λ up. full (or_right (gave_up n true u) (list_any (gave_up n true) us) up)),
       )
+
+-- the answers that are missing come first, then the pages that were wanted
+pub short_parted : (answers page split : Bool) → ((answers || split) || page) ≡ (answers || (page || split))
+short_parted true page split = refl
+short_parted false true true = refl
+short_parted false true false = refl
+short_parted false false true = refl
+short_parted false false false = refl
 
 settled_at : (r : Result (Unit {0}) NoMemory) (t : State) → is_refused r ≡ false → LeavesSettled r t → IsSettled t
 settled_at (Ok x) t e h = h
@@ -346,19 +355,26 @@ module _ (c : Configuration) (scripts : List (List Op)) (schedule : List Schedul
       (subst (λ log. AllTakeSteps c log scripts (replies_of seats) first n) (sym h.log_is)
       (all_spent c scripts s seats first n h.last.board.log f.ran.at.settings later.grows f.over spent))
 
-  pub played : Played c scripts schedule o
-  unfolding in_order
-  played =
+  headline : Headline c scripts o
+  headline =
       let live_in : length (live (updates_of o.log)) ≡ length (live (updates_of h.last.board.log)) = ap (λ l. length (live (updates_of l))) h.log_is in
       let settled : o.short ≡ false → IsSettled h.last = λ e. settled_at h.result h.last (short_parts e) h.settles.leaves in
       record {
         legal = legal;
-        order = in_order;
+        cells_are = outcome_in.cells_are ∙ ap (cells_of c) (sym h.log_is);
         limit_is = h.limit_is;
-        short_is = h.short_is ∙ ap (λ b. has_memory o.replies || (lacks_page h.last || b)) splitter.wanted_is;
+        answered = λ e. (or_parts (has_memory o.replies) (lacks_page h.last || (x.wanted || is_refused h.result)) (sym h.short_is ∙ e)).0;
         no_fewer = omega (arith, live_in, outcome_in.entries_are, enough h.last later.kept.sound);
         whole = λ e. outcome_in.entries_are ∙ (settled e).entries ∙ sym live_in;
         settled = λ e less.
             let below : h.last.board.allotted < h.last.board.settings.pages = omega (arith, less, h.allotted_is, ap (λ (z : Configuration). z.pages) settings) in
             subst (Settled c) (sym h.log_is) (subst (λ (z : Configuration). Settled z h.last.board.log) settings ((settled e).settled below));
       }
+
+  pub played : Played c scripts schedule o
+  unfolding in_order
+  played = record {
+    headline = headline;
+    order = in_order;
+    short_is = h.short_is ∙ ap (λ b. has_memory o.replies || (lacks_page h.last || b)) splitter.wanted_is;
+  }

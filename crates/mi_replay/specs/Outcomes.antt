@@ -1,19 +1,18 @@
 -- What a replay of scripts leaves.
-use Rattle.std.specs.Prelude.{◌≡◌, ◌<◌, ◌≤◌, ◌||◌, ◌++◌, ℕ, Bool, false, List, length, map, Result}
+use Rattle.std.specs.Prelude.{◌≡◌, ◌||◌, ◌++◌, ℕ, Bool, false, List, length, map, Result}
 use Rattle.std.specs.List.{list_any}
 use Rattle.mi_base.specs.declared.refusals.NoMemory.{NoMemory}
 use Rattle.mi_base.specs.declared.records.Op.{Op}
 use Rattle.mi_base.specs.declared.records.Reply.{Reply}
 use Rattle.mi_base.specs.declared.records.ScheduleItem.{ScheduleItem}
 use Rattle.mi_base.specs.Configuration.{Configuration}
-use Rattle.mi_base.specs.History.{live, updates_of}
 use Rattle.mi_core.specs.Counted.{total}
 use Rattle.mi_core.specs.State.{State}
-use Rattle.mi_legal.specs.Legal.{Legal}
 use Rattle.mi_legal.specs.Want.{has_memory}
 use Rattle.mi_replay.specs.declared.seats.Seat.{Seat}
 use Rattle.mi_replay.specs.declared.splitters.SplitterSeat.{SplitterSeat}
 use Rattle.mi_replay.specs.declared.tables.Table.{Table}
+use Rattle.mi_replay.specs.Headlines.{Headline}
 use Rattle.mi_replay.specs.InOrder.{InOrder}
 use Rattle.mi_replay.specs.Settling.{Settles, is_refused}
 use Rattle.mi_replay.specs.Splitters.{gave_up}
@@ -21,7 +20,7 @@ use Rattle.mi_replay.specs.Turns.{ComesTo}
 use Rattle.mi_solo.specs.Solos.{entries_on}
 use Rattle.mi_solo.specs.States.{actor_in}
 use Rattle.mi_tree.specs.declared.outcomes.Outcome.{Outcome}
-use Rattle.mi_tree.specs.Legal.{Settled, cells_of}
+use Rattle.mi_tree.specs.Legal.{cells_of}
 
 -- memory was wanted for a page of some actor
 abbrev pub lacks_page : State → Bool
@@ -31,16 +30,12 @@ lacks_page s = list_any (λ r. r.lacked) s.actors
 abbrev pub is_short_of : (c : Configuration) (scripts : List (List Op)) (schedule : List ScheduleItem) (o : Outcome) → InOrder c scripts schedule o → Bool
 is_short_of c scripts schedule o run = has_memory o.replies || (lacks_page run.last || list_any (gave_up (length scripts) false) (run.turns ++ run.settling))
 
--- The outcome of scripts after a schedule: legal, and of a run in order; where it isn't short, with an entry for each live object and no others,
--- and without a leaf that is to be split while there are pages.
+-- The outcome of scripts after a schedule: what each outcome of scripts tells, of a run in the order of the schedule, and short only where memory was
+-- wanted.
 pub record Played (c : Configuration) (scripts : List (List Op)) (schedule : List ScheduleItem) (o : Outcome) : Type 0 where
-  pub legal : Legal c scripts o.replies o.log o.allotted
+  pub headline : Headline c scripts o
   pub order : InOrder c scripts schedule o
-  pub limit_is : o.limit ≡ c.pages
   pub short_is : o.short ≡ is_short_of c scripts schedule o order
-  pub no_fewer : length (live (updates_of o.log)) ≤ o.entries
-  pub whole : o.short ≡ false → o.entries ≡ length (live (updates_of o.log))
-  pub settled : o.short ≡ false → o.allotted < c.pages → Settled c o.log
 
 -- where actors only come to turns, what they share and what they lack stays
 pub record SameButSeen (s t : State) : Type 0 where

@@ -56,7 +56,7 @@ runs_to l o said is said_is =
         played = is;
         short_is = refl;
         text_is = ap (λ cells. transcript o.replies o.log cells o.entries o.allotted o.limit) (end.cells_are ∙ ap (cells_of l.settings) (sym end.log_is))
-            ∙ ap (λ n. transcript o.replies o.log (cells_of l.settings o.log) o.entries o.allotted n) is.limit_is;
+            ∙ ap (λ n. transcript o.replies o.log (cells_of l.settings o.log) o.entries o.allotted n) is.headline.limit_is;
       };
       said_is = said_is;
     }

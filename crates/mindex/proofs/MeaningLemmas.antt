@@ -335,13 +335,13 @@ outcome_of inputs o = record o { cells = cells_of inputs.settings o.log; limit =
 printable : (inputs : Inputs) (o : Outcome) → Played inputs.settings inputs.scripts inputs.schedule o → AreLimited inputs → IsPrintable (outcome_of inputs o)
 printable inputs o played limited =
     let c = inputs.settings in
-    let legal = played.legal.log_is in
+    let legal = played.headline.legal.log_is in
     let few = few_in_order c inputs.scripts inputs.schedule o limited.limits limited.metric played.order in
     let short = all_weaker (IsScriptOver (metric_space c)) (λ os. length os ≤ 200000) (λ os over. over.few) inputs.scripts limited.scripts in
     record {
-      replies = all_printable c limited.limits limited.metric o.log legal o.allotted 0 inputs.scripts o.replies limited.scripts played.legal.right;
+      replies = all_printable c limited.limits limited.metric o.log legal o.allotted 0 inputs.scripts o.replies limited.scripts played.headline.legal.right;
       log = events_printable c limited.limits (length inputs.scripts) 200000 limited.few (omega arith) o.log (log_small c limited.limits o.log legal)
-          (entries_small (length inputs.scripts) 200000 (entered o.log) played.legal.named (λ k low. own_small 200000 o.log 0 inputs.scripts o.replies short played.legal.entered_are k k (omega arith) low));
+          (entries_small (length inputs.scripts) 200000 (entered o.log) played.headline.legal.named (λ k low. own_small 200000 o.log 0 inputs.scripts o.replies short played.headline.legal.entered_are k k (omega arith) low));
       cells = leaf_printable c limited.limits o.log legal;
       totals = (omega (arith, few.0), (omega (arith, few.1), (omega (arith, limited.limits.pages.1), tt)));
     }
