@@ -58,7 +58,7 @@ drives_first o number begin space pivots v job k seat over begun taken =
       ticked = (omega (arith, count, b.spent), omega (arith, count));
     }
 
-actors_on : (v w u : View) → SameActors v w → SameActors w u → SameActors v u
+pub actors_on : (v w u : View) → SameActors v w → SameActors w u → SameActors v u
 actors_on v w u a b = record { absorbed = b.absorbed ∙ a.absorbed; forked = b.forked ∙ a.forked }
 
 module _ (o : Op) (number begin : ℕ) (v : View) (old new : Job) (w u : View) (k n : ℕ) where
@@ -208,7 +208,7 @@ events_within (suc n) [] = omega arith
 events_within (suc n) (Update session number u ∷ log) = omega (arith, events_within n log)
 events_within (suc n) (Split p ∷ log) = omega (arith, events_within (suc n) log)
 
-reach_within : (c : Configuration) (log : List LogEvent) (allotted k j : ℕ) (o : Op) (y : Reply) → Right c log allotted k j o y → MatchOption (reach log y) (Unit {0}) (λ n. n ≤ length log)
+pub reach_within : (c : Configuration) (log : List LogEvent) (allotted k j : ℕ) (o : Op) (y : Reply) → Right c log allotted k j o y → MatchOption (reach log y) (Unit {0}) (λ n. n ≤ length log)
 reach_within c log allotted k j o (reply.Stored n) h = events_within n log
 reach_within c log allotted k j o (reply.Removed n) h = events_within n log
 reach_within c log allotted k j (op.Insert id v) (reply.Present p) h = h.0.within
