@@ -19,17 +19,21 @@ pub fn fronts_never_fall()
 {}
 
 /// What the replies to a script are in each log that goes on from what its session has seen at its
-/// end: each is right, if that log has no more updates than it may and all pages are allotted where
-/// the actor was told so; and none falls behind an earlier one, nor behind what was seen before the
-/// first. The actor's own updates are those of before and the accepted ones of the script, in order.
+/// end. Each is right, if that log has no more updates than it may and all pages are allotted where
+/// the actor was told so. None falls behind an earlier one, nor behind what was seen before the
+/// first. The actor's own updates are those of before and, in order, the accepted ones of the
+/// script.
 pub fn scripts_are_answered()
     ensures more { (number : ℕ) (v w u : View) (os : List AnOp) (ys : List AReply) (o : AnOp) (y : AReply)
-        → AnswersAll number v os ys w → Answers o (number + length os) w y u → AnswersAll number v (os ++ o ∷ []) (ys ++ y ∷ []) u }
-    ensures later { (number : ℕ) (v w : View) (os : List AnOp) (ys : List AReply) → AnswersAll number v os ys w → Later v w }
+        → AnswersAll number v os ys w → Answers o (number + length os) w y u
+        → AnswersAll number v (os ++ o ∷ []) (ys ++ y ∷ []) u }
+    ensures later { (number : ℕ) (v w : View) (os : List AnOp) (ys : List AReply)
+        → AnswersAll number v os ys w → Later v w }
     ensures right { (number : ℕ) (v w : View) (os : List AnOp) (ys : List AReply) (log : List AnEvent) (allotted : ℕ)
-        → AnswersAll number v os ys w → Grows w.seen log → length (updates_of log) ≤ w.settings.updates → (IsTrue w.told → allotted ≡ w.settings.pages)
-        → EachRight w.settings log allotted w.actor number os ys }
-    ensures own { (number : ℕ) (v w : View) (os : List AnOp) (ys : List AReply) → AnswersAll number v os ys w → w.own ≡ v.own ++ accepted_in w.actor number os ys }
-    ensures forward { (number : ℕ) (v w : View) (os : List AnOp) (ys : List AReply) (log : List AnEvent)
-        → AnswersAll number v os ys w → Grows w.seen log → NeverFalls log (length v.seen) ys }
+        → AnswersAll number v os ys w → Grows w.seen log → length (updates_of log) ≤ w.settings.updates
+        → (IsTrue w.told → allotted ≡ w.settings.pages) → EachRight w.settings log allotted w.actor number os ys }
+    ensures own { (number : ℕ) (v w : View) (os : List AnOp) (ys : List AReply)
+        → AnswersAll number v os ys w → w.own ≡ v.own ++ accepted_in w.actor number os ys }
+    ensures forward { (number : ℕ) (v w : View) (os : List AnOp) (ys : List AReply) (log : List AnEvent) (low : ℕ)
+        → AnswersAll number v os ys w → Grows w.seen log → low ≤ length v.seen → NeverFalls log low ys }
 {}

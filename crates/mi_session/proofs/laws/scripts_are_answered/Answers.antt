@@ -1,4 +1,3 @@
-use Rattle.std.proofs.Common.{length, arith}
 use Rattle.mi_session.proofs.ScriptLemmas.{all_forward, all_later, all_own, all_right, answers_more}
 use Rattle.mi_session.proofs.laws.scripts_are_answered.Goals as goal
 
@@ -15,4 +14,4 @@ pub returns-clause-own : goal.returns-clause-own
 returns-clause-own c = λ number v w os ys. all_own number v os ys w
 
 pub returns-clause-forward : goal.returns-clause-forward
-returns-clause-forward c = λ number v w os ys log all grows. all_forward number v os ys w log all grows (length v.seen) (omega arith)
+returns-clause-forward c = λ number v w os ys log low all grows. all_forward number v os ys w log all grows low
