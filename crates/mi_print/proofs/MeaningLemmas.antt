@@ -8,7 +8,7 @@ use Rattle.mi_base.specs.History.{updates_of}
 use Rattle.mi_tree.specs.declared.outcomes.Leaf.{Leaf}
 use Rattle.mi_tree.specs.declared.outcomes.Outcome.{Outcome}
 use Rattle.mi_print.specs.Render.{number_line, session_lines, event_line, leaf_line, cell_lines}
-use Rattle.mi_print.specs.Meaning.{AreNumbers, IsPrintableEvent, IsPrintableLeaf, cell_of, text_of, OneMeaning}
+use Rattle.mi_print.specs.Meaning.{AreNumbers, IsPrintableEvent, IsPrintableLeaf, IsPrintableReply, cell_of, text_of, OneMeaning}
 use Rattle.mi_print.proofs.LineLemmas.{after_line, number_line_same}
 use Rattle.mi_print.proofs.RunLemmas.{ended}
 use Rattle.mi_print.proofs.ReplyLemmas.{after_sessions, sessions_same}
@@ -84,11 +84,19 @@ parts o = ap (λ t. session_lines 0 o.replies ++ t)
     ∙ ap (λ t. after_sessions (history_counts o.log) (flat_map event_line o.log ++ t))
     (append_assoc (number_line (codes "cells") (length o.cells ∷ [])) (flat_map leaf_line o.cells) (totals o.entries o.allotted o.limit)))
 
+-- the replies and the log are told, whatever the cells and the totals are
+pub history_told : (a b : Outcome) → AllByRecursion (λ session. AllByRecursion IsPrintableReply session) a.replies → AllByRecursion (λ session. AllByRecursion IsPrintableReply session) b.replies
+    → AllByRecursion IsPrintableEvent a.log → AllByRecursion IsPrintableEvent b.log → text_of a ≡ text_of b
+    → (a.replies ≡ b.replies) × (a.log ≡ b.log) × (cells_part (length a.cells) (leaf_lines a) ≡ cells_part (length b.cells) (leaf_lines b))
+history_told a b replies_a replies_b log_a log_b e =
+    let sessions = sessions_same 0 a.replies b.replies (history_counts a.log) (history_counts b.log) (event_lines a) (event_lines b) replies_a replies_b
+    (sym (parts a) ∙ e ∙ parts b) in
+    let history = history_same a.log b.log (length a.cells) (length b.cells) (leaf_lines a) (leaf_lines b) log_a log_b sessions.1 in
+    (sessions.0, history.0, history.1)
+
 pub one_meaning : OneMeaning
 one_meaning a b ga gb e =
-    let sessions = sessions_same 0 a.replies b.replies (history_counts a.log) (history_counts b.log) (event_lines a) (event_lines b) ga.replies gb.replies
-    (sym (parts a) ∙ e ∙ parts b) in
-    let history = history_same a.log b.log (length a.cells) (length b.cells) (leaf_lines a) (leaf_lines b) ga.log gb.log sessions.1 in
-    let cells = cells_same a.cells b.cells a.entries b.entries (pages_line a) (pages_line b) ga.cells gb.cells history.1 in
+    let told = history_told a b ga.replies gb.replies ga.log gb.log e in
+    let cells = cells_same a.cells b.cells a.entries b.entries (pages_line a) (pages_line b) ga.cells gb.cells told.2 in
     let rest = totals_same a.entries a.allotted a.limit b.entries b.allotted b.limit ga.totals gb.totals cells.1 in
-    record { replies = sessions.0; log = history.0; cells = cells.0; entries = rest.entries; allotted = rest.allotted; limit = rest.limit }
+    record { replies = told.0; log = told.1; cells = cells.0; entries = rest.entries; allotted = rest.allotted; limit = rest.limit }

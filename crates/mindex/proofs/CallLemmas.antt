@@ -1,14 +1,16 @@
 -- What a call says and sends.
-use Rattle.std.proofs.Common.{◌≡◌, ◌&&◌, ℕ, zero, suc, ◌<◌, ◌≤◌, List, [], ◌∷◌, length, map, drop, get_or, Bool, true, false, cond, Option, None, Some, Result, Ok, Err, refl, sym, ap, ◌∙◌, subst, arith, inl, inr, ◌⊎◌}
+use Rattle.std.proofs.Common.{◌≡◌, ◌&&◌, ℕ, zero, suc, ◌+◌, ◌<◌, ◌≤◌, List, [], ◌∷◌, length, map, drop, get_or, Bool, true, false, cond, Option, None, Some, Result, Ok, Err, refl, sym, ap, ◌∙◌, subst, arith, inl, inr, ◌⊎◌}
 use Rattle.std.specs.List.{AllByRecursion}
-use Rattle.std.specs.Prelude.{bytes_eq, codes, is_some, OnOk, OnErr, IsOk}
+use Rattle.std.specs.Prelude.{bytes_eq, codes, is_some, IfOk, OnOk, OnErr, IsOk}
+use Rattle.mi_base.specs.declared.limits.TheConstants.{MAX_SESSIONS}
 use Rattle.mi_base.specs.declared.records.Actor.{Actor}
 use Rattle.mi_base.specs.declared.records.Actor.TheVariants.{Session, Splitter}
 use Rattle.mi_base.specs.declared.records.Op.{Op}
 use Rattle.mi_base.specs.declared.records.ScheduleItem.{ScheduleItem}
 use Rattle.mi_base.specs.declared.records.Take.{Take}
 use Rattle.mi_base.specs.declared.records.Take.TheVariants as take
-use Rattle.mi_base.specs.Configuration.{Configuration}
+use Rattle.mi_base.specs.declared.refusals.NoMemory.{NoMemory}
+use Rattle.mi_base.specs.Configuration.{Configuration, metric_space}
 use Rattle.mi_input.specs.Faults.{◌>>=◌}
 use Rattle.mi_input.specs.Settings.{settings_in}
 use Rattle.mi_input.specs.Schedules.{IsActorOf, IsItemOf, IsTake, schedule_in}
@@ -20,22 +22,22 @@ use Rattle.mi_tree.specs.Legal.{cells_of}
 use Rattle.mi_print.specs.Render.{transcript}
 use Rattle.mi_table.specs.declared.any.AnyMetric.{AnyMetric}
 use Rattle.mi_table.specs.declared.faults.TableFault.{TableFault}
+use Rattle.mi_table.specs.Any.{any_space}
 use Rattle.mi_table.specs.Faults.{first_fault}
 use Rattle.mindex.specs.declared.refusals.Refusal.{Refusal}
 use Rattle.mindex.specs.declared.refusals.Refusal.TheVariants.{Record, Table}
 use Rattle.mindex.specs.declared.refusals.Stop.{Stop}
 use Rattle.mindex.specs.declared.refusals.Stop.TheVariants.{Refused, Unread, Memory}
-use Rattle.mindex.specs.declared.loading.Loaded.{Loaded}
-use Rattle.mindex.specs.Calls.{Answered, Answers, Completes, Ends, IsRunNumber, IsWant, Replayed, RunsTo, Says, SaysOf, Serves, Tells, transcript_status, usage_line}
+use Rattle.mindex.specs.Calls.{Answered, Answers, Completes, Ends, IsRunNumber, KeepsSchedule, OutcomeSays, RunSays, RunsTo, Says, SaysOf, Serves, Spoken, Tells, transcript_status, usage_line}
 use Rattle.mindex.specs.declared.statuses.Status.{Status}
 use Rattle.mindex.specs.declared.statuses.Status.TheVariants as status
 use Rattle.mindex.specs.Statuses.{status_number}
-use Rattle.mindex.specs.Inputs.{AreScriptTexts, AreTextsOf, EachHas, IsTextOf, GoodBefore, Inputs, Names, ScriptsGoodBefore, Texts, are_sessions, settings_or_fault, in_file, inputs_of, names_in, schedule_of, scripts_of, settings_from, settings_of}
-use Rattle.mindex.specs.Loading.{Finds, FindsAll, FindsScripts, HasMetric, Loads, LoadsAll, LoadsScripts, MayRun, inputs_in, stop_line, stop_status}
-use Rattle.mi_replay.specs.Outcomes.{Played}
+use Rattle.mindex.specs.Inputs.{AreGoodBefore, AreScriptTexts, AreTextsOf, EachHas, IsTextOf, GoodBefore, Inputs, MayHave, Names, ScriptsGoodBefore, Texts, are_sessions, first_script, settings_or_fault, in_file, inputs_of, replay_names_in, run_names_in, schedule_from, schedule_of, scripts_from, settings_from, settings_of}
+use Rattle.mindex.specs.Loading.{Finds, FindsAll, FindsScripts, HasMetric, Loads, LoadsAll, LoadsScripts, MayRun, stop_line, stop_status}
+use Rattle.mi_replay.specs.Headlines.{Headline}
 use Rattle.mi_replay.specs.Tables.{ActorIsOver, IsItemOver, TakeIsOver}
 use Rattle.mindex.proofs.LoadingLemmas.{LoadsAt, some_text, some_text_is}
-use Rattle.mindex.proofs.ScriptsLemmas.{scripts_as_many, some_texts, some_texts_are, texts_as_many, texts_then}
+use Rattle.mindex.proofs.ScriptsLemmas.{scripts_counted, some_texts, some_texts_are, texts_as_many, texts_then}
 use Rattle.mi_tree.proofs.ListLemmas.{all_weaker}
 
 -- a text that was sent, and the status beside it
@@ -45,21 +47,33 @@ ends_from said ended text old new (Ok u) sends ok err = record { sent = inl (ok,
 ends_from said ended text old new (Err e) sends ok err = record { sent = inr (err, sends.err); grows = sends.grows }
 
 -- an outcome's text is the transcript
-pub runs_to : (l : Loaded) (o : Outcome) (said : Status) → Played l.settings l.scripts l.schedule o → said ≡ transcript_status o.short
-    → RunsTo (inputs_in l) said (transcript o.replies o.log o.cells o.entries o.allotted o.limit)
-runs_to l o said is said_is =
-    let end = is.order.outcome in
+runs_to : (inputs : Inputs) (o : Outcome) (said : Status) (text : List ℕ) → Headline inputs.settings inputs.scripts o → KeepsSchedule inputs.settings inputs.scripts inputs.schedule o
+    → OutcomeSays (Ok o) said text → RunsTo inputs said text
+runs_to inputs o said text headline order says =
+    let c = inputs.settings in
     record {
       short = o.short;
       ran = record {
         outcome = o;
-        played = is;
+        headline = headline;
         short_is = refl;
-        text_is = ap (λ cells. transcript o.replies o.log cells o.entries o.allotted o.limit) (end.cells_are ∙ ap (cells_of l.settings) (sym end.log_is))
-            ∙ ap (λ n. transcript o.replies o.log (cells_of l.settings o.log) o.entries o.allotted n) is.headline.limit_is;
+        text_is = says.1 ∙ ap (λ cells. transcript o.replies o.log cells o.entries o.allotted o.limit) headline.cells_are
+            ∙ ap (λ n. transcript o.replies o.log (cells_of c o.log) o.entries o.allotted n) headline.limit_is;
       };
-      said_is = said_is;
+      order = order;
+      said_is = says.0;
     }
+
+-- what is said of an outcome is said of the inputs that were run
+says_of : (inputs : Inputs) (r : Result Outcome NoMemory) (said : Status) (text : List ℕ)
+    → IfOk r (λ o. Headline inputs.settings inputs.scripts o × KeepsSchedule inputs.settings inputs.scripts inputs.schedule o) → OutcomeSays r said text → RunSays inputs said text
+says_of inputs (Ok o) said text is says = inl (runs_to inputs o said text is.0 is.1 says)
+says_of inputs (Err e) said text is says = inr says
+
+pub spoken_of : (inputs : Inputs) (r : Result Outcome NoMemory) (old new : SinkState) (ended : Status)
+    → IfOk r (λ o. Headline inputs.settings inputs.scripts o × KeepsSchedule inputs.settings inputs.scripts inputs.schedule o)
+    → Spoken (OutcomeSays r) old new ended → Spoken (RunSays inputs) old new ended
+spoken_of inputs r old new ended is s = record { said = s.said; text = s.text; says = says_of inputs r s.said s.text is s.says; ends = s.ends }
 
 -- each item of a schedule that was read is one of its sessions or of the splitter
 pub items_over : (n : ℕ) (items : List ScheduleItem) → AllByRecursion (IsItemOf n) items → AllByRecursion (IsItemOver n) items
@@ -83,24 +97,42 @@ bad_settings text refusal found = ap (λ r. r >>= λ d. settings_or_fault d (fir
 pub bad_table : (text : List ℕ) (c : Configuration) (fault : TableFault) → in_file 0 settings_in text ≡ Ok c → first_fault c.rows ≡ Some fault → settings_from text ≡ Err (Table fault)
 bad_table text c fault found first = ap (λ r. r >>= λ d. settings_or_fault d (first_fault d.rows)) found ∙ ap (settings_or_fault c) first
 
-settings_good : (texts : Texts) (c : Configuration) → in_file 0 settings_in texts.settings ≡ Ok c → first_fault c.rows ≡ None → settings_of texts ≡ Ok c
-settings_good texts c found none = good_settings texts.settings c found none
+-- the settings were read and measured, as far as that went
+
+finds_settings : (f0 f1 : FilesState) (text : List ℕ) (s : Stop) → Finds {X = Configuration} 0 f0 f1 (in_file 0 settings_in text) (Err s) → Finds {X = Configuration} 0 f0 f1 (settings_from text) (Err s)
+finds_settings f0 f1 text (Refused refusal) found = (bad_settings text refusal found.0, found.1)
+finds_settings f0 f1 text (Unread file) found = found
+finds_settings f0 f1 text Memory found = found
+
+finds_table : (f0 f1 : FilesState) (text : List ℕ) (c : Configuration) (s : Stop) → Finds 0 f0 f1 (in_file 0 settings_in text) (Ok c) → HasMetric c (Err s)
+    → Finds {X = Configuration} 0 f0 f1 (settings_from text) (Err s)
+finds_table f0 f1 text c (Refused (Table fault)) found h = (bad_table text c fault found.0 h, found.1)
+finds_table f0 f1 text c (Refused (Record file number why)) found h = absurd h
+finds_table f0 f1 text c (Unread file) found h = absurd h
+finds_table f0 f1 text c Memory found h = found.1
+
+module _ (f0 f1 : FilesState) (name : List ℕ) where
+  pub unmeasured : (s : Stop) → Loads {X = Configuration} f0 f1 name 0 (in_file 0 settings_in) (Err s) → Loads {X = Configuration} f0 f1 name 0 settings_from (Err s)
+  unmeasured s l = record { text = l.text; told_is = l.told_is; finds = finds_settings f0 f1 l.text s l.finds; grows = l.grows }
+
+  pub without_metric : (c : Configuration) (s : Stop) → Loads f0 f1 name 0 (in_file 0 settings_in) (Ok c) → HasMetric c (Err s) → Loads {X = Configuration} f0 f1 name 0 settings_from (Err s)
+  without_metric c s l h = record { text = l.text; told_is = l.told_is; finds = finds_table f0 f1 l.text c s l.finds h; grows = l.grows }
+
+  pub measured : (c : Configuration) → Loads f0 f1 name 0 (in_file 0 settings_in) (Ok c) → first_fault c.rows ≡ None → Loads f0 f1 name 0 settings_from (Ok c)
+  measured c l none = record { text = l.text; told_is = l.told_is; finds = (good_settings l.text c l.finds.0 none, l.finds.1); grows = l.grows }
 
 -- the files after the settings
+abbrev after_schedule : Texts → Configuration → Option (List ScheduleItem) → Result Inputs Refusal
+after_schedule texts c items = scripts_from c (first_script texts.schedule) texts.scripts >>= λ scripts. Ok (record { settings = c; schedule = items; scripts = scripts })
+
 abbrev after_settings : Texts → Configuration → Result Inputs Refusal
-after_settings texts c = schedule_of texts >>= λ items. scripts_of c texts.scripts >>= λ scripts. Ok (record { settings = c; schedule = items; scripts = scripts })
+after_settings texts c = schedule_of texts >>= λ items. after_schedule texts c items
 
-abbrev after_schedule : Texts → Configuration → List ScheduleItem → Result Inputs Refusal
-after_schedule texts c items = scripts_of c texts.scripts >>= λ scripts. Ok (record { settings = c; schedule = items; scripts = scripts })
-
-abbrev after_scripts : Configuration → List ScheduleItem → Result (List (List Op)) Refusal → Result Inputs Refusal
+abbrev after_scripts : Configuration → Option (List ScheduleItem) → Result (List (List Op)) Refusal → Result Inputs Refusal
 after_scripts c items read = read >>= λ scripts. Ok (record { settings = c; schedule = items; scripts = scripts })
 
-refused_settings : (texts : Texts) (refusal : Refusal) → in_file 0 settings_in texts.settings ≡ Err refusal → inputs_of texts ≡ Err refusal
-refused_settings texts refusal found = ap (λ r. r >>= after_settings texts) (bad_settings texts.settings refusal found)
-
-refused_table : (texts : Texts) (c : Configuration) (fault : TableFault) → in_file 0 settings_in texts.settings ≡ Ok c → first_fault c.rows ≡ Some fault → inputs_of texts ≡ Err (Table fault)
-refused_table texts c fault found first = ap (λ r. r >>= after_settings texts) (bad_table texts.settings c fault found first)
+abbrev some_items : Result (List ScheduleItem) Refusal → Result (Option (List ScheduleItem)) Refusal
+some_items read = read >>= λ items. Ok (Some items)
 
 good_inputs : (texts : Texts) (c : Configuration) → settings_of texts ≡ Ok c → inputs_of texts ≡ after_settings texts c
 good_inputs texts c good = ap (λ r. r >>= after_settings texts) good
@@ -108,115 +140,147 @@ good_inputs texts c good = ap (λ r. r >>= after_settings texts) good
 pub is_ok_from : {X : Type 0} (r : Result X Refusal) (x : X) → r ≡ Ok x → IsOk r
 is_ok_from {X} r x e = subst (λ (q : Result X Refusal). IsOk q) (sym e) refl
 
-finds_schedule : (texts : Texts) (f0 f1 f2 : FilesState) (c : Configuration) (s : Stop) → settings_of texts ≡ Ok c → f1.faults ≡ f0.faults → Finds {X = List ScheduleItem} 1 f1 f2 (schedule_of texts) (Err s)
-    → FindsAll texts f0 f2 (Err s)
-finds_schedule texts f0 f1 f2 c (Refused refusal) good stands found = (good_inputs texts c good ∙ ap (λ r. r >>= after_schedule texts c) found.0, found.1 ∙ stands)
-finds_schedule texts f0 f1 f2 c (Unread file) good stands found =
-    (subst (λ n. GoodBefore n texts) (sym found.0) (is_ok_from (settings_of texts) c good), subst (λ n. Rose n f2.faults) stands found.1)
-finds_schedule texts f0 f1 f2 c Memory good stands found = found ∙ stands
+-- scripts that are good stand behind files that are
+good_behind : (schedule : Option (List ℕ)) (count : ℕ) (texts : Texts) → ScriptsGoodBefore count texts → AreGoodBefore (first_script schedule + count) schedule texts
+good_behind None count texts h = let e : suc count ≡ 1 + count = omega arith in subst (λ n. AreGoodBefore n None texts) e h
+good_behind (Some text) count texts h = let e : suc (suc count) ≡ 2 + count = omega arith in subst (λ n. AreGoodBefore n (Some text) texts) e h
 
-finds_scripts : (texts : Texts) (f0 f2 f3 : FilesState) (c : Configuration) (items : List ScheduleItem) (s : Stop) → settings_of texts ≡ Ok c → schedule_of texts ≡ Ok items → f2.faults ≡ f0.faults
-    → FindsScripts c texts.scripts f2 f3 (Err s) → FindsAll texts f0 f3 (Err s)
+finds_scripts : (texts : Texts) (f0 f2 f3 : FilesState) (c : Configuration) (items : Option (List ScheduleItem)) (s : Stop) → settings_of texts ≡ Ok c → schedule_of texts ≡ Ok items → f2.faults ≡ f0.faults
+    → FindsScripts c (first_script texts.schedule) texts.scripts f2 f3 (Err s) → FindsAll texts f0 f3 (Err s)
 finds_scripts texts f0 f2 f3 c items (Refused refusal) good scheduled stands found =
     (good_inputs texts c good ∙ ap (λ r. r >>= after_schedule texts c) scheduled ∙ ap (after_scripts c items) found.0, found.1 ∙ stands)
 finds_scripts texts f0 f2 f3 c items (Unread file) good scheduled stands found =
     let before : ScriptsGoodBefore found.0 texts = record { more = found.2; settings = c; settings_are = good; schedule = is_ok_from (schedule_of texts) items scheduled; scripts = found.3 } in
-    (subst (λ n. GoodBefore n texts) (sym found.1) before, subst (λ n. Rose n f3.faults) stands found.4)
+    (subst (λ n. GoodBefore n texts) (sym found.1) (good_behind texts.schedule found.0 texts before), subst (λ n. Rose n f3.faults) stands found.4)
 finds_scripts texts f0 f2 f3 c items Memory good scheduled stands found = found ∙ stands
 
--- texts of which the first was read
-abbrev with_settings : FilesState → Names → List ℕ → Texts
-with_settings files names text = record { settings = text; schedule = some_text (files.content names.schedule); scripts = some_texts files names.scripts }
+-- a text that a schedule may have
+abbrev some_schedule : FilesState → Option (List ℕ) → Option (List ℕ)
+some_schedule files None = None
+some_schedule files (Some name) = Some (some_text (files.content name))
 
-told_settings : (files : FilesState) (names : Names) (text : List ℕ) → IsTextOf (files.content names.settings) text → AreTextsOf files names (with_settings files names text)
-told_settings files names text is = record {
-  settings = is;
-  schedule = some_text_is (files.content names.schedule);
-  scripts = some_texts_are files names.scripts;
-}
+some_schedule_is : (files : FilesState) (name : Option (List ℕ)) → MayHave (λ name text. IsTextOf (files.content name) text) name (some_schedule files name)
+some_schedule_is files None = tt
+some_schedule_is files (Some name) = some_text_is (files.content name)
+
+-- a schedule was read where there is one: a text that its file has, and what is in it
+pub record ScheduleRead (files : FilesState) (name : Option (List ℕ)) (sessions : ℕ) (items : Option (List ScheduleItem)) : Type 0 where
+  pub text : Option (List ℕ)
+  pub told : MayHave (λ name text. IsTextOf (files.content name) text) name text
+  pub good : schedule_from sessions text ≡ Ok items
+
+pub no_schedule : (files : FilesState) (sessions : ℕ) → ScheduleRead files None sessions None
+no_schedule files sessions = record { text = None; told = tt; good = refl }
+
+pub schedule_read : (f0 f1 f2 : FilesState) (name : List ℕ) (sessions : ℕ) (items : List ScheduleItem) → LoadsAt f0 f1 f2 name 1 (in_file 1 (schedule_in sessions)) (Ok items)
+    → ScheduleRead f0 (Some name) sessions (Some items)
+schedule_read f0 f1 f2 name sessions items k = record { text = Some k.text; told = k.told_is; good = ap some_items k.finds.0 }
+
+first_told : (its : List ℕ → List ℕ → Type 0) (name text : Option (List ℕ)) → MayHave its name text → first_script name ≡ first_script text
+first_told its None None h = refl
+first_told its (Some name) (Some text) h = refl
+first_told its (Some name) None h = absurd h
+first_told its None (Some text) h = absurd h
+
+-- there are as many texts of scripts as names
+texts_for : (files : FilesState) (names texts : List (List ℕ)) (sessions : ℕ) → sessions ≡ length names → AreScriptTexts files names texts → sessions ≡ length texts
+texts_for files names texts sessions as_many told = as_many ∙ sym (texts_as_many (λ name text. IsTextOf (files.content name) text) names texts told)
 
 module _ (names : Names) (f0 : FilesState) where
-  finds_settings : (f1 : FilesState) (texts : Texts) (s : Stop) → Finds {X = Configuration} 0 f0 f1 (in_file 0 settings_in texts.settings) (Err s) → FindsAll texts f0 f1 (Err s)
-  finds_settings f1 texts (Refused refusal) found = (refused_settings texts refusal found.0, found.1)
-  finds_settings f1 texts (Unread file) found = (subst (λ n. GoodBefore n texts) (sym found.0) tt, found.1)
-  finds_settings f1 texts Memory found = found
+  finds_none : (f1 : FilesState) (texts : Texts) (s : Stop) → Finds {X = Configuration} 0 f0 f1 (settings_of texts) (Err s) → FindsAll texts f0 f1 (Err s)
+  finds_none f1 texts (Refused refusal) found = (ap (λ r. r >>= after_settings texts) found.0, found.1)
+  finds_none f1 texts (Unread file) found = (subst (λ n. GoodBefore n texts) (sym found.0) tt, found.1)
+  finds_none f1 texts Memory found = found
 
   -- the settings could not be read, or are refused
-  pub stopped_at_settings : (f1 : FilesState) (s : Stop) → Loads {X = Configuration} f0 f1 names.settings 0 (in_file 0 settings_in) (Err s) → LoadsAll names f0 f1 (Err s)
-  stopped_at_settings f1 s l = record {
-    texts = with_settings f0 names l.text;
-    told = told_settings f0 names l.text l.told_is;
-    finds = finds_settings f1 (with_settings f0 names l.text) s l.finds;
-    grows = l.grows;
-  }
+  pub stopped_at_settings : (f1 : FilesState) (s : Stop) → Loads {X = Configuration} f0 f1 names.settings 0 settings_from (Err s) → LoadsAll names f0 f1 (Err s)
+  stopped_at_settings f1 s l =
+      let texts : Texts = record { settings = l.text; schedule = some_schedule f0 names.schedule; scripts = some_texts f0 names.scripts } in
+      record {
+        texts = texts;
+        told = record { settings = l.told_is; schedule = some_schedule_is f0 names.schedule; scripts = some_texts_are f0 names.scripts };
+        finds = finds_none f1 texts s l.finds;
+        grows = l.grows;
+      }
 
-  finds_table : (f1 : FilesState) (texts : Texts) (c : Configuration) (s : Stop) → Finds 0 f0 f1 (in_file 0 settings_in texts.settings) (Ok c) → HasMetric c (Err s) → FindsAll texts f0 f1 (Err s)
-  finds_table f1 texts c (Refused (Table fault)) found h = (refused_table texts c fault found.0 h, found.1)
-  finds_table f1 texts c (Refused (Record file number why)) found h = absurd h
-  finds_table f1 texts c (Unread file) found h = absurd h
-  finds_table f1 texts c Memory found h = found.1
+  module _ (sessions : ℕ) (as_many : sessions ≡ length names.scripts) (f1 f2 f3 : FilesState) (c : Configuration) (items : Option (List ScheduleItem))
+      (l : Loads f0 f1 names.settings 0 settings_from (Ok c)) (k : ScheduleRead f0 names.schedule sessions items) (stands : f2.faults ≡ f1.faults) (same : KeepsContents f0 f2) where
+    -- what all files say, where these are the texts of the scripts
+    abbrev texts_with : List (List ℕ) → Texts
+    texts_with scripts = record { settings = l.text; schedule = k.text; scripts = scripts }
 
-  -- the table has a fault
-  pub stopped_at_table : (f1 : FilesState) (c : Configuration) (s : Stop) → Loads f0 f1 names.settings 0 (in_file 0 settings_in) (Ok c) → HasMetric c (Err s) → LoadsAll names f0 f1 (Err s)
-  stopped_at_table f1 c s l h = record {
-    texts = with_settings f0 names l.text;
-    told = told_settings f0 names l.text l.told_is;
-    finds = finds_table f1 (with_settings f0 names l.text) c s l.finds h;
-    grows = l.grows;
-  }
+    told_with : (scripts : List (List ℕ)) → AreScriptTexts f2 names.scripts scripts → AreTextsOf f0 names (texts_with scripts)
+    told_with scripts told = record { settings = l.told_is; schedule = k.told; scripts = texts_then f0 f2 names.scripts scripts same told }
 
-  module _ (sessions : ℕ) (as_many : sessions ≡ length names.scripts) where
-    -- the schedule is for as many sessions as there are scripts
-    scheduled : (f1 f2 : FilesState) (text : List ℕ) (texts : List (List ℕ)) (result : Result (List ScheduleItem) Stop) → AreScriptTexts f0 names.scripts texts
-        → Finds 1 f1 f2 (in_file 1 (schedule_in sessions) text) result → Finds 1 f1 f2 (in_file 1 (schedule_in (length texts)) text) result
-    scheduled f1 f2 text texts result told found =
-        subst (λ n. Finds 1 f1 f2 (in_file 1 (schedule_in n) text) result) (as_many ∙ sym (texts_as_many (λ name text. IsTextOf (f0.content name) text) names.scripts texts told)) found
+    scheduled : (scripts : List (List ℕ)) → AreScriptTexts f2 names.scripts scripts → schedule_from (length scripts) k.text ≡ Ok items
+    scheduled scripts told =
+        subst (λ n. schedule_from n k.text ≡ Ok items) (texts_for f0 names.scripts scripts sessions as_many (texts_then f0 f2 names.scripts scripts same told)) k.good
 
-    -- the schedule could not be read, or is refused
-    pub stopped_at_schedule : (f1 f2 : FilesState) (c : Configuration) (s : Stop) → Loads f0 f1 names.settings 0 (in_file 0 settings_in) (Ok c) → first_fault c.rows ≡ None
-        → LoadsAt {X = List ScheduleItem} f0 f1 f2 names.schedule 1 (in_file 1 (schedule_in sessions)) (Err s) → LoadsAll names f0 f2 (Err s)
-    stopped_at_schedule f1 f2 c s l none k =
-        let texts : Texts = record { settings = l.text; schedule = k.text; scripts = some_texts f0 names.scripts } in
-        let told : AreTextsOf f0 names texts = record { settings = l.told_is; schedule = k.told_is; scripts = some_texts_are f0 names.scripts } in
-        let good = settings_good texts c l.finds.0 none in
-        let found = scheduled f1 f2 k.text texts.scripts (Err s) told.scripts k.finds in
-        record { texts = texts; told = told; finds = finds_schedule texts f0 f1 f2 c s good l.finds.1 found; grows = omega (arith, l.grows, k.grows) }
+    placed : (result : Result (List (List Op)) Stop) → LoadsScripts c (first_script names.schedule) names.scripts f2 f3 result → LoadsScripts c (first_script k.text) names.scripts f2 f3 result
+    placed result m =
+        subst (λ n. LoadsScripts c n names.scripts f2 f3 result) (first_told (λ name text. IsTextOf (f0.content name) text) names.schedule k.text k.told) m
 
-    module _ (f1 f2 f3 : FilesState) (c : Configuration) (items : List ScheduleItem) (l : Loads f0 f1 names.settings 0 (in_file 0 settings_in) (Ok c)) (none : first_fault c.rows ≡ None)
-        (k : LoadsAt f0 f1 f2 names.schedule 1 (in_file 1 (schedule_in sessions)) (Ok items)) (same : KeepsContents f0 f2) where
-      -- a script could not be read, or is refused
-      pub stopped_at_scripts : (s : Stop) → LoadsScripts c names.scripts f2 f3 (Err s) → LoadsAll names f0 f3 (Err s)
-      stopped_at_scripts s m =
-          let texts : Texts = record { settings = l.text; schedule = k.text; scripts = m.texts } in
-          let told : AreTextsOf f0 names texts = record { settings = l.told_is; schedule = k.told_is; scripts = texts_then f0 f2 names.scripts m.texts same m.told } in
-          let found = scheduled f1 f2 k.text m.texts (Ok items) told.scripts k.finds in
-          record {
-            texts = texts;
-            told = told;
-            finds = finds_scripts texts f0 f2 f3 c items s (settings_good texts c l.finds.0 none) found.0 (found.1 ∙ l.finds.1) m.finds;
-            grows = omega (arith, l.grows, k.grows, m.grows);
-          }
+    -- a script could not be read, or is refused
+    pub stopped_at_scripts : (s : Stop) → LoadsScripts c (first_script names.schedule) names.scripts f2 f3 (Err s) → LoadsAll names f0 f3 (Err s)
+    stopped_at_scripts s m =
+        let p = placed (Err s) m in
+        record {
+          texts = texts_with p.texts;
+          told = told_with p.texts p.told;
+          finds = finds_scripts (texts_with p.texts) f0 f2 f3 c items s l.finds.0 (scheduled p.texts p.told) (stands ∙ l.finds.1) p.finds;
+          grows = omega (arith, l.grows, stands, p.grows);
+        }
 
-      -- all were read
-      pub loaded_all : (metric : AnyMetric) (scripts : List (List Op)) → LoadsScripts c names.scripts f2 f3 (Ok scripts)
-          → (length scripts ≡ sessions → MayRun (record { settings = c; metric = metric; schedule = items; scripts = scripts }))
-          → LoadsAll names f0 f3 (Ok (record { settings = c; metric = metric; schedule = items; scripts = scripts }))
-      loaded_all metric scripts m may =
-          let texts : Texts = record { settings = l.text; schedule = k.text; scripts = m.texts } in
-          let told : AreTextsOf f0 names texts = record { settings = l.told_is; schedule = k.told_is; scripts = texts_then f0 f2 names.scripts m.texts same m.told } in
-          let found = scheduled f1 f2 k.text m.texts (Ok items) told.scripts k.finds in
-          let count : length scripts ≡ sessions =
-          omega (arith, as_many, scripts_as_many c 2 m.texts scripts m.finds.0, texts_as_many (λ name text. IsTextOf (f0.content name) text) names.scripts m.texts told.scripts) in
-          record {
-            texts = texts;
-            told = told;
-            finds = (
-              good_inputs texts c (settings_good texts c l.finds.0 none) ∙ ap (λ r. r >>= after_schedule texts c) found.0 ∙ ap (after_scripts c items) m.finds.0,
-              may count,
-              m.finds.2 ∙ found.1 ∙ l.finds.1,
-            );
-            grows = omega (arith, l.grows, k.grows, m.grows);
-          }
+    -- all were read
+    pub loaded_all : (scripts : List (List Op)) → LoadsScripts c (first_script names.schedule) names.scripts f2 f3 (Ok scripts)
+        → LoadsAll names f0 f3 (Ok (record { settings = c; schedule = items; scripts = scripts }))
+    loaded_all scripts m =
+        let p = placed (Ok scripts) m in
+        let texts = texts_with p.texts in
+        record {
+          texts = texts;
+          told = told_with p.texts p.told;
+          finds = (
+            good_inputs texts c l.finds.0 ∙ ap (λ r. r >>= after_schedule texts c) (scheduled p.texts p.told) ∙ ap (after_scripts c items) p.finds.0,
+            p.finds.2 ∙ stands ∙ l.finds.1,
+          );
+          grows = omega (arith, l.grows, stands, p.grows);
+        }
+
+module _ (settings schedule : List ℕ) (scripts : List (List ℕ)) (f0 f1 f2 : FilesState) (c : Configuration) where
+  abbrev scheduled_names : Names
+  scheduled_names = record { settings = settings; schedule = Some schedule; scripts = scripts }
+
+  finds_schedule : (text words : List ℕ) (others : List (List ℕ)) (s : Stop) → settings_from text ≡ Ok c → f1.faults ≡ f0.faults
+      → Finds {X = List ScheduleItem} 1 f1 f2 (in_file 1 (schedule_in (length others)) words) (Err s) → FindsAll (record { settings = text; schedule = Some words; scripts = others }) f0 f2 (Err s)
+  finds_schedule text words others (Refused refusal) good stands found =
+      let texts : Texts = record { settings = text; schedule = Some words; scripts = others } in
+      (good_inputs texts c good ∙ ap (λ r. r >>= after_schedule texts c) (ap some_items found.0), found.1 ∙ stands)
+  finds_schedule text words others (Unread file) good stands found =
+      let texts : Texts = record { settings = text; schedule = Some words; scripts = others } in
+      (subst (λ n. GoodBefore n texts) (sym found.0) (is_ok_from (settings_from text) c good), subst (λ n. Rose n f2.faults) stands found.1)
+  finds_schedule text words others Memory good stands found = found ∙ stands
+
+  -- the schedule could not be read, or is refused
+  pub stopped_at_schedule : (sessions : ℕ) → sessions ≡ length scripts → (s : Stop) → Loads f0 f1 settings 0 settings_from (Ok c)
+      → LoadsAt {X = List ScheduleItem} f0 f1 f2 schedule 1 (in_file 1 (schedule_in sessions)) (Err s) → LoadsAll scheduled_names f0 f2 (Err s)
+  stopped_at_schedule sessions as_many s l k =
+      let others : List (List ℕ) = some_texts f0 scripts in
+      let told : AreScriptTexts f0 scripts others = some_texts_are f0 scripts in
+      record {
+        texts = record { settings = l.text; schedule = Some k.text; scripts = others };
+        told = record { settings = l.told_is; schedule = k.told_is; scripts = told };
+        finds = finds_schedule l.text k.text others s l.finds.0 l.finds.1
+            (subst (λ n. Finds {X = List ScheduleItem} 1 f1 f2 (in_file 1 (schedule_in n) k.text) (Err s)) (texts_for f0 scripts others sessions as_many told) k.finds);
+        grows = omega (arith, l.grows, k.grows);
+      }
+
+-- what was read may be run
+pub may_run : (c : Configuration) (metric : AnyMetric) (first : ℕ) (names : List (List ℕ)) (old new : FilesState) (scripts : List (List Op)) → any_space metric ≡ metric_space c
+    → 1 ≤ length names → length names ≤ MAX_SESSIONS → LoadsScripts c first names old new (Ok scripts) → MayRun (record { settings = c; metric = metric; scripts = scripts })
+may_run c metric first names old new scripts space some few m =
+    let count = scripts_counted c first names old new scripts m in
+    record { space = space; some = omega (arith, some, count); few = omega (arith, few, count); scripts = m.finds.1 }
 
 -- the words aren't served
 pub says_usage : (names : Option Names) (files : FilesState) (old new : SinkState) (ended : Status) → is_some names ≡ false
@@ -238,30 +302,22 @@ says_stop words names f0 f1 old new ended s is l ends =
     subst (λ w. Answers (Says w) f0 f1 old new ended) (sym is)
     (record { said = stop_status s; text = stop_line s; says = serves_stop names f0 f1 s l; ends = ends; grows = l.grows })
 
-serves_run : (names : Names) (f0 f1 : FilesState) (l : Loaded) (said : Status) (text : List ℕ) → LoadsAll names f0 f1 (Ok l)
-    → RunsTo (inputs_in l) said text ⊎ IsWant said text → Serves names f0 f1 said text
-serves_run names f0 f1 l said text all (inl runs) =
-    record { texts = all.texts; told = all.told; says = inr (all.finds.2, inr (inl (record { inputs = inputs_in l; read = all.finds.0; runs = runs }))) }
-serves_run names f0 f1 l said text all (inr want) = record { texts = all.texts; told = all.told; says = inr (all.finds.2, inr (inr want)) }
+serves_run : (names : Names) (f0 f1 : FilesState) (inputs : Inputs) (said : Status) (text : List ℕ) → LoadsAll names f0 f1 (Ok inputs) → RunSays inputs said text → Serves names f0 f1 said text
+serves_run names f0 f1 inputs said text all (inl runs) =
+    record { texts = all.texts; told = all.told; says = inr (all.finds.1, inr (inl (record { inputs = inputs; read = all.finds.0; runs = runs }))) }
+serves_run names f0 f1 inputs said text all (inr want) = record { texts = all.texts; told = all.told; says = inr (all.finds.1, inr (inr want)) }
 
 -- the inputs were run
-pub says_run : (words : Option Names) (names : Names) (f0 f1 : FilesState) (old new : SinkState) (ended : Status) (l : Loaded) → words ≡ Some names
-    → LoadsAll names f0 f1 (Ok l) → Replayed (inputs_in l) old new ended → Answers (Says words) f0 f1 old new ended
-says_run words names f0 f1 old new ended l is all ran =
+pub says_run : (words : Option Names) (names : Names) (f0 f1 : FilesState) (old new : SinkState) (ended : Status) (inputs : Inputs) → words ≡ Some names
+    → LoadsAll names f0 f1 (Ok inputs) → Spoken (RunSays inputs) old new ended → Answers (Says words) f0 f1 old new ended
+says_run words names f0 f1 old new ended inputs is all ran =
     subst (λ w. Answers (Says w) f0 f1 old new ended) (sym is)
-    (record { said = ran.said; text = ran.text; says = serves_run names f0 f1 l ran.said ran.text all ran.says; ends = ran.ends; grows = all.grows })
+    (record { said = ran.said; text = ran.text; says = serves_run names f0 f1 inputs ran.said ran.text all ran.says; ends = ran.ends; grows = all.grows })
 
 -- the words are served where they are a command and enough names
 served_as : (test : Bool) (names : Names) → is_some {T = Names} (cond test (Some names) None) ≡ true → cond {A = Option Names} test (Some names) None ≡ Some names
 served_as true names h = refl
 served_as false names h = cc
-
--- the names among the words that are served
-pub served_names : (words : List (List ℕ)) → is_some (names_in words) ≡ true → names_in words ≡ Some (record { settings = get_or words 1 []; schedule = get_or words 2 []; scripts = drop 3 words })
-served_names [] h = cc
-served_names (a ∷ []) h = cc
-served_names (a ∷ b ∷ []) h = cc
-served_names (a ∷ b ∷ d ∷ scripts) h = served_as (bytes_eq a (codes "replay") && are_sessions scripts) (record { settings = b; schedule = d; scripts = scripts }) h
 
 -- the word at a place
 pub word_at : {W : Type 0} (f : W → List ℕ) (words : List W) (i : ℕ) (w : W) → i < length words → w ≡ get_or words i w → get_or (map f words) i [] ≡ f w
@@ -275,14 +331,35 @@ words_from f zero words = refl
 words_from f (suc n) [] = refl
 words_from f (suc n) (w ∷ words) = words_from f n words
 
+-- the names among the words of a replay, and of a run in threads
+replay_served : (words : List (List ℕ)) → is_some (replay_names_in words) ≡ true
+    → replay_names_in words ≡ Some (record { settings = get_or words 1 []; schedule = Some (get_or words 2 []); scripts = drop 3 words })
+replay_served [] h = cc
+replay_served (a ∷ []) h = cc
+replay_served (a ∷ b ∷ []) h = cc
+replay_served (a ∷ b ∷ d ∷ scripts) h = served_as (bytes_eq a (codes "replay") && are_sessions scripts) (record { settings = b; schedule = Some d; scripts = scripts }) h
+
+run_served : (words : List (List ℕ)) → is_some (run_names_in words) ≡ true → run_names_in words ≡ Some (record { settings = get_or words 1 []; schedule = None; scripts = drop 2 words })
+run_served [] h = cc
+run_served (a ∷ []) h = cc
+run_served (a ∷ b ∷ scripts) h = served_as (bytes_eq a (codes "run") && are_sessions scripts) (record { settings = b; schedule = None; scripts = scripts }) h
+
 -- the words that are served have these names
-pub named_words : {W : Type 0} (f : W → List ℕ) (words : List W) (a b : W) (names : Names) → is_some (names_in (map f words)) ≡ true → 4 ≤ length words
-    → a ≡ get_or words 1 a → b ≡ get_or words 2 b → names.settings ≡ f a → names.schedule ≡ f b → names.scripts ≡ map f (drop 3 words) → names_in (map f words) ≡ Some names
-named_words f words a b names served some first second settings schedule scripts =
-    served_names (map f words) served
-    ∙ ap (λ w. Some (record { settings = w; schedule = get_or (map f words) 2 []; scripts = drop 3 (map f words) })) (word_at f words 1 a (omega arith) first ∙ sym settings)
-    ∙ ap (λ w. Some (record { settings = names.settings; schedule = w; scripts = drop 3 (map f words) })) (word_at f words 2 b (omega arith) second ∙ sym schedule)
-    ∙ ap (λ ws. Some (record { settings = names.settings; schedule = names.schedule; scripts = ws })) (words_from f 3 words ∙ sym scripts)
+pub replay_named : {W : Type 0} (f : W → List ℕ) (words : List W) (a b : W) (settings schedule : List ℕ) (scripts : List (List ℕ)) → is_some (replay_names_in (map f words)) ≡ true → 4 ≤ length words
+    → a ≡ get_or words 1 a → b ≡ get_or words 2 b → settings ≡ f a → schedule ≡ f b → scripts ≡ map f (drop 3 words)
+    → replay_names_in (map f words) ≡ Some (record { settings = settings; schedule = Some schedule; scripts = scripts })
+replay_named f words a b settings schedule scripts served some first second named scheduled behind =
+    replay_served (map f words) served
+    ∙ ap (λ w. Some (record { settings = w; schedule = Some (get_or (map f words) 2 []); scripts = drop 3 (map f words) })) (word_at f words 1 a (omega arith) first ∙ sym named)
+    ∙ ap (λ w. Some (record { settings = settings; schedule = Some w; scripts = drop 3 (map f words) })) (word_at f words 2 b (omega arith) second ∙ sym scheduled)
+    ∙ ap (λ ws. Some (record { settings = settings; schedule = Some schedule; scripts = ws })) (words_from f 3 words ∙ sym behind)
+
+pub run_named : {W : Type 0} (f : W → List ℕ) (words : List W) (a : W) (settings : List ℕ) (scripts : List (List ℕ)) → is_some (run_names_in (map f words)) ≡ true → 3 ≤ length words
+    → a ≡ get_or words 1 a → settings ≡ f a → scripts ≡ map f (drop 2 words) → run_names_in (map f words) ≡ Some (record { settings = settings; schedule = None; scripts = scripts })
+run_named f words a settings scripts served some first named behind =
+    run_served (map f words) served
+    ∙ ap (λ w. Some (record { settings = w; schedule = None; scripts = drop 2 (map f words) })) (word_at f words 1 a (omega arith) first ∙ sym named)
+    ∙ ap (λ ws. Some (record { settings = settings; schedule = None; scripts = ws })) (words_from f 2 words ∙ sym behind)
 
 pub told_text : (told : Option (List ℕ)) (text other : List ℕ) → told ≡ Some text → IsTextOf told other → other ≡ text
 told_text told text other is h = subst (λ o. IsTextOf o other) is h
@@ -296,10 +373,19 @@ told_texts files (name ∷ names) [] others t h = absurd t
 told_texts files [] texts (other ∷ others) t h = absurd h
 told_texts files (name ∷ names) texts [] t h = absurd h
 
+told_schedule : (files : FilesState) (name text other : Option (List ℕ)) → MayHave (λ name text. files.content name ≡ Some text) name text
+    → MayHave (λ name text. IsTextOf (files.content name) text) name other → other ≡ text
+told_schedule files None None None t h = refl
+told_schedule files (Some name) (Some text) (Some other) t h = ap (λ w. Some w) (told_text (files.content name) text other t h)
+told_schedule files None (Some text) other t h = absurd t
+told_schedule files (Some name) None other t h = absurd t
+told_schedule files None text (Some other) t h = absurd h
+told_schedule files (Some name) text None t h = absurd h
+
 told_inputs : (files : FilesState) (names : Names) (texts others : Texts) → Tells files names texts → AreTextsOf files names others → inputs_of others ≡ inputs_of texts
 told_inputs files names texts others t h =
     ap (λ w. inputs_of (record { settings = w; schedule = others.schedule; scripts = others.scripts })) (told_text (files.content names.settings) texts.settings others.settings t.settings h.settings)
-    ∙ ap (λ w. inputs_of (record { settings = texts.settings; schedule = w; scripts = others.scripts })) (told_text (files.content names.schedule) texts.schedule others.schedule t.schedule h.schedule)
+    ∙ ap (λ w. inputs_of (record { settings = texts.settings; schedule = w; scripts = others.scripts })) (told_schedule files names.schedule texts.schedule others.schedule t.schedule h.schedule)
     ∙ ap (λ ws. inputs_of (record { settings = texts.settings; schedule = texts.schedule; scripts = ws })) (told_texts files names.scripts texts.scripts others.scripts t.scripts h.scripts)
 
 -- the status of a call that ran its inputs, or that wanted memory

@@ -3,5 +3,4 @@ pub mod ChooseLemmas
 pub mod LoadingLemmas
 pub mod MakeLemmas
 pub mod MeaningLemmas
-pub mod RunLemmas
 pub mod ScriptsLemmas

@@ -31,25 +31,22 @@ use Rattle.mi_base.proofs.LiveLemmas.{few_live, length_filter}
 use Rattle.mi_base.proofs.SortingLemmas.{filter_keeps, same_length, same_sorted}
 use Rattle.mi_tree.specs.declared.outcomes.Outcome.{Outcome}
 use Rattle.mi_tree.specs.Cells.{AllMaySplit, MaySplit, grid_of, leaves, same_cell}
-use Rattle.mi_tree.specs.Counting.{belongs, catalog_after, leaf_with, population}
+use Rattle.mi_tree.specs.Counting.{catalog_after}
 use Rattle.mi_tree.specs.Legal.{EachMayFollow, LegalLog, cells_of}
 use Rattle.mi_tree.proofs.FitLemmas.{Fits, leaves_fit}
-use Rattle.mi_tree.proofs.CatLemmas.{held_live}
 use Rattle.mi_tree.proofs.GridLemmas.{space_is_grid}
 use Rattle.mi_tree.proofs.LeafLemmas.{same_cell_is}
-use Rattle.mi_tree.proofs.LegalLemmas.{all_may, grid, live_updated, updates_of_split, wanted}
+use Rattle.mi_tree.proofs.LegalLemmas.{grid, live_updated, updates_of_split, wanted}
 use Rattle.mi_tree.proofs.ListLemmas.{all_from_test, all_joined, all_map, all_put, all_take, all_weaker}
-use Rattle.mi_tree.proofs.LimitLemmas.{few_cells, is_grid, log_short}
+use Rattle.mi_tree.proofs.LimitLemmas.{few_cells, log_short}
 use Rattle.mi_legal.specs.Legal.{AllEntered, AllRight, EachRight, accepted_in, accepted_update}
 use Rattle.mi_legal.specs.Right.{IsNearest, IsRange, IsUpdateNumber, Right}
 use Rattle.mi_legal.proofs.ReplyLemmas.{number_within}
 use Rattle.mi_rules.specs.Passing.{candidates, is_opened, is_reached, kth_distance, lets_through, opened_count, passes, reached_count}
-use Rattle.mi_replay.specs.Outcomes.{Played}
-use Rattle.mi_print.specs.Meaning.{AreCoordinates, AreNumbers, IsPrintable, IsPrintableEvent, IsPrintableLeaf, IsPrintableReply, IsPrintableRow}
-use Rattle.mi_print.proofs.MeaningLemmas.{one_meaning}
-use Rattle.mindex.specs.Inputs.{Inputs}
+use Rattle.mi_replay.specs.Headlines.{Headline}
+use Rattle.mi_print.specs.Meaning.{AreCoordinates, AreNumbers, IsPrintableEvent, IsPrintableReply, IsPrintableRow}
+use Rattle.mi_print.proofs.MeaningLemmas.{history_told}
 use Rattle.mindex.specs.Meaning.{AreLimited, OneHistory}
-use Rattle.mindex.proofs.RunLemmas.{few_in_order}
 
 -- coordinates, and those of vectors that fit
 
@@ -305,17 +302,6 @@ events_printable c limits sessions most low few (event.Update session op (update
     ((omega (arith, own.0, low), (omega (arith, own.1, few), (omega (arith, first), tt))), events_printable c limits sessions most low few log h.1 k.1)
 events_printable c limits sessions most low few (event.Split p ∷ log) h k = (prefix_small (length c.pivots) p limits.few_pivots h.0, events_printable c limits sessions most low few log h.1 k)
 
--- the cells
-leaf_printable : (c : Configuration) → IsWithinLimits c → (log : List LogEvent) → LegalLog c log → AllByRecursion IsPrintableLeaf (cells_of c log)
-leaf_printable c limits log legal =
-    let g = grid c in
-    let h = population g log in
-    let n = length c.pivots in
-    let fit = recursion_from_All (Fits n c.levels) (leaves g log) (leaves_fit g (is_grid c limits log legal) log (all_may c log legal)) in
-    let most : length h.live ≤ 1400000 = omega (arith, ap length (held_live g log), few_live (updates_of log), few_updates log, log_short c limits log legal) in
-    all_map (leaf_with g h) IsPrintableLeaf (leaves g log)
-    (all_weaker (Fits n c.levels) _ (λ p f. (omega (arith, length_filter (belongs g p) h.live, most), prefix_small n p limits.few_pivots f.1)) (leaves g log) fit)
-
 -- the replies of all sessions
 all_printable : (c : Configuration) → IsWithinLimits c → IsMetric (metric_space c) → (log : List LogEvent) → LegalLog c log → (allotted session : ℕ) (scripts : List (List Op)) (replies : List (List Reply))
     → AllByRecursion (IsScriptOver (metric_space c)) scripts → AllRight c log allotted session scripts replies → AllByRecursion (λ ys. AllByRecursion IsPrintableReply ys) replies
@@ -328,25 +314,22 @@ all_printable c limits metric log legal allotted session (os ∷ scripts) (ys �
 )
 
 -- the same outcome with the cells of its log
-abbrev outcome_of : (inputs : Inputs) → Outcome → Outcome
-outcome_of inputs o = record o { cells = cells_of inputs.settings o.log; limit = inputs.settings.pages }
+abbrev outcome_of : Configuration → Outcome → Outcome
+outcome_of c o = record o { cells = cells_of c o.log; limit = c.pages }
 
--- an outcome that the headline allows can be read back
-printable : (inputs : Inputs) (o : Outcome) → Played inputs.settings inputs.scripts inputs.schedule o → AreLimited inputs → IsPrintable (outcome_of inputs o)
-printable inputs o played limited =
-    let c = inputs.settings in
-    let legal = played.headline.legal.log_is in
-    let few = few_in_order c inputs.scripts inputs.schedule o limited.limits limited.metric played.order in
-    let short = all_weaker (IsScriptOver (metric_space c)) (λ os. length os ≤ 200000) (λ os over. over.few) inputs.scripts limited.scripts in
-    record {
-      replies = all_printable c limited.limits limited.metric o.log legal o.allotted 0 inputs.scripts o.replies limited.scripts played.headline.legal.right;
-      log = events_printable c limited.limits (length inputs.scripts) 200000 limited.few (omega arith) o.log (log_small c limited.limits o.log legal)
-          (entries_small (length inputs.scripts) 200000 (entered o.log) played.headline.legal.named (λ k low. own_small 200000 o.log 0 inputs.scripts o.replies short played.headline.legal.entered_are k k (omega arith) low));
-      cells = leaf_printable c limited.limits o.log legal;
-      totals = (omega (arith, few.0), (omega (arith, few.1), (omega (arith, limited.limits.pages.1), tt)));
-    }
+module _ (c : Configuration) (scripts : List (List Op)) (o : Outcome) (headline : Headline c scripts o) (limited : AreLimited c scripts) where
+  replies_told : AllByRecursion (λ ys. AllByRecursion IsPrintableReply ys) o.replies
+  replies_told = all_printable c limited.limits limited.metric o.log headline.legal.log_is o.allotted 0 scripts o.replies limited.scripts_are headline.legal.right
+
+  log_told : AllByRecursion IsPrintableEvent o.log
+  log_told =
+      let legal = headline.legal in
+      let short = all_weaker (IsScriptOver (metric_space c)) (λ os. length os ≤ 200000) (λ os over. over.few) scripts limited.scripts_are in
+      events_printable c limited.limits (length scripts) 200000 limited.few (omega arith) o.log (log_small c limited.limits o.log legal.log_is)
+      (entries_small (length scripts) 200000 (entered o.log) legal.named (λ k low. own_small 200000 o.log 0 scripts o.replies short legal.entered_are k k (omega arith) low))
 
 pub one_history : OneHistory
-one_history a b s t text la lb x y =
-    let same = one_meaning (outcome_of a x.outcome) (outcome_of b y.outcome) (printable a x.outcome x.played la) (printable b y.outcome y.played lb) (sym x.text_is ∙ y.text_is) in
-    (same.log, same.replies)
+one_history c d scripts others s t text la lb x y =
+    let same = history_told (outcome_of c x.outcome) (outcome_of d y.outcome) (replies_told c scripts x.outcome x.headline la) (replies_told d others y.outcome y.headline lb)
+    (log_told c scripts x.outcome x.headline la) (log_told d others y.outcome y.headline lb) (sym x.text_is ∙ y.text_is) in
+    (same.1, same.0)

@@ -15,7 +15,7 @@ use Rattle.mi_outside.specs.States.{FilesState}
 use Rattle.mindex.specs.declared.refusals.Refusal.{Refusal}
 use Rattle.mindex.specs.declared.refusals.Stop.{Stop}
 use Rattle.mindex.specs.declared.refusals.Stop.TheVariants.{Refused, Unread, Memory}
-use Rattle.mindex.specs.Inputs.{AreScriptTexts, EachHas, IsTextOf, in_file, scripts_from, scripts_of}
+use Rattle.mindex.specs.Inputs.{AreScriptTexts, EachHas, IsTextOf, in_file, scripts_from}
 use Rattle.mindex.specs.Loading.{Finds, FindsScripts, Loads, LoadsScripts}
 use Rattle.mindex.proofs.LoadingLemmas.{LoadsAt, loads_at, some_text, some_text_is}
 
@@ -86,39 +86,44 @@ behind c file (text ∷ texts) others scripts h =
     subst (λ (front : List (List Op)). all ≡ (scripts_from c (file + suc (length texts)) others >>= λ more. Ok (front ++ more))) (ok_same {E = Refusal} (script ∷ rest) scripts e)
     (subst (λ n. all ≡ (scripts_from c n others >>= λ more. Ok ((script ∷ rest) ++ more))) place whole)
 
--- the scripts of these names were read
-pub record Front (c : Configuration) (first now : FilesState) (names : List (List ℕ)) (scripts : List (List Op)) : Type 0 where
+-- so many scripts were read as there are names
+pub scripts_counted : (c : Configuration) (first : ℕ) (names : List (List ℕ)) (old new : FilesState) (scripts : List (List Op)) → LoadsScripts c first names old new (Ok scripts) → length scripts ≡ length names
+scripts_counted c first names old new scripts m =
+    omega (arith, scripts_as_many c first m.texts scripts m.finds.0, texts_as_many (λ name text. IsTextOf (old.content name) text) names m.texts m.told)
+
+-- the scripts of these names were read, the first of which is at this place
+pub record Front (c : Configuration) (place : ℕ) (first now : FilesState) (names : List (List ℕ)) (scripts : List (List Op)) : Type 0 where
   pub texts : List (List ℕ)
   pub told : AreScriptTexts first names texts
-  pub good : scripts_of c texts ≡ Ok scripts
+  pub good : scripts_from c place texts ≡ Ok scripts
   pub over : AllByRecursion (IsScriptOver (metric_space c)) scripts
   pub stands : now.faults ≡ first.faults
   pub same : KeepsContents first now
 
-module _ (c : Configuration) (f0 f1 : FilesState) (names : List (List ℕ)) (scripts : List (List Op)) (h : Front c f0 f1 names scripts) where
-  place_is : 2 + length h.texts ≡ length scripts + 2
-  place_is = omega (arith, scripts_as_many c 2 h.texts scripts h.good)
+module _ (c : Configuration) (first : ℕ) (f0 f1 : FilesState) (names : List (List ℕ)) (scripts : List (List Op)) (h : Front c first f0 f1 names scripts) where
+  place_is : first + length h.texts ≡ first + length scripts
+  place_is = omega (arith, scripts_as_many c first h.texts scripts h.good)
 
   -- what is found in a text behind them
-  next : (text : List ℕ) (rest : List (List ℕ)) → scripts_of c (h.texts ++ text ∷ rest) ≡ (scripts_from c (length scripts + 2) (text ∷ rest) >>= λ more. Ok (scripts ++ more))
-  next text rest = subst (λ n. scripts_of c (h.texts ++ text ∷ rest) ≡ (scripts_from c n (text ∷ rest) >>= λ more. Ok (scripts ++ more))) place_is (behind c 2 h.texts (text ∷ rest) scripts h.good)
+  next : (text : List ℕ) (rest : List (List ℕ)) → scripts_from c first (h.texts ++ text ∷ rest) ≡ (scripts_from c (first + length scripts) (text ∷ rest) >>= λ more. Ok (scripts ++ more))
+  next text rest = subst (λ n. scripts_from c first (h.texts ++ text ∷ rest) ≡ (scripts_from c n (text ∷ rest) >>= λ more. Ok (scripts ++ more))) place_is (behind c first h.texts (text ∷ rest) scripts h.good)
 
-  refused : (text : List ℕ) (rest : List (List ℕ)) (refusal : Refusal) → in_file (length scripts + 2) (script_in c) text ≡ Err refusal → scripts_of c (h.texts ++ text ∷ rest) ≡ Err refusal
+  refused : (text : List ℕ) (rest : List (List ℕ)) (refusal : Refusal) → in_file (first + length scripts) (script_in c) text ≡ Err refusal → scripts_from c first (h.texts ++ text ∷ rest) ≡ Err refusal
   refused text rest refusal e =
-      next text rest ∙ ap (λ (r : Result (List Op) Refusal). (r >>= λ script. scripts_from c (length scripts + 2 + 1) rest >>= λ more. Ok (script ∷ more)) >>= λ more. Ok (scripts ++ more)) e
+      next text rest ∙ ap (λ (r : Result (List Op) Refusal). (r >>= λ script. scripts_from c (first + length scripts + 1) rest >>= λ more. Ok (script ∷ more)) >>= λ more. Ok (scripts ++ more)) e
 
   -- what was found in the file behind them, by its name
-  found_at : {f2 : FilesState} {told : List ℕ} {file : ℕ} {result : Result (List Op) Stop} (name : List ℕ) → told ≡ name → file ≡ length scripts + 2
-      → Loads f1 f2 told file (in_file file (script_in c)) result → LoadsAt f0 f1 f2 name (length scripts + 2) (in_file (length scripts + 2) (script_in c)) result
+  found_at : {f2 : FilesState} {told : List ℕ} {file : ℕ} {result : Result (List Op) Stop} (name : List ℕ) → told ≡ name → file ≡ first + length scripts
+      → Loads f1 f2 told file (in_file file (script_in c)) result → LoadsAt f0 f1 f2 name (first + length scripts) (in_file (first + length scripts) (script_in c)) result
   found_at {f2} {told} {file} {result} name named place loads =
       let placed = subst (λ n. Loads f1 f2 told n (in_file n (script_in c)) result) place loads in
-      loads_at f0 f1 f2 name (length scripts + 2) (in_file (length scripts + 2) (script_in c)) result (h.same name)
-      (subst (λ n. Loads f1 f2 n (length scripts + 2) (in_file (length scripts + 2) (script_in c)) result) named placed)
+      loads_at f0 f1 f2 name (first + length scripts) (in_file (first + length scripts) (script_in c)) result (h.same name)
+      (subst (λ n. Loads f1 f2 n (first + length scripts) (in_file (first + length scripts) (script_in c)) result) named placed)
 
-  module _ (f2 : FilesState) (name : List ℕ) {told : List ℕ} {file : ℕ} (named : told ≡ name) (place : file ≡ length scripts + 2) where
+  module _ (f2 : FilesState) (name : List ℕ) {told : List ℕ} {file : ℕ} (named : told ≡ name) (place : file ≡ first + length scripts) where
     -- one more was read
     pub front_more : (script : List Op) → Loads f1 f2 told file (in_file file (script_in c)) (Ok script) → KeepsContents f1 f2
-        → IsScriptOver (metric_space c) script → Front c f0 f2 (names ++ name ∷ []) (scripts ++ script ∷ [])
+        → IsScriptOver (metric_space c) script → Front c first f0 f2 (names ++ name ∷ []) (scripts ++ script ∷ [])
     front_more script loads keeps over =
         let l = found_at name named place loads in
         record {
@@ -130,21 +135,21 @@ module _ (c : Configuration) (f0 f1 : FilesState) (names : List (List ℕ)) (scr
           same = λ other. keeps other ∙ h.same other;
         }
 
-    finds : (s : Stop) (text : List ℕ) (rest : List (List ℕ)) → Finds {X = List Op} (length scripts + 2) f1 f2 (in_file (length scripts + 2) (script_in c) text) (Err s)
-        → FindsScripts c (h.texts ++ text ∷ rest) f0 f2 (Err s)
+    finds : (s : Stop) (text : List ℕ) (rest : List (List ℕ)) → Finds {X = List Op} (first + length scripts) f1 f2 (in_file (first + length scripts) (script_in c) text) (Err s)
+        → FindsScripts c first (h.texts ++ text ∷ rest) f0 f2 (Err s)
     finds (Refused refusal) text rest found = (refused text rest refusal found.0, found.1 ∙ h.stands)
     finds (Unread file) text rest found =
         let before : take (length h.texts) (h.texts ++ text ∷ rest) ≡ h.texts = take-append_seam h.texts (text ∷ rest) in (
           length h.texts,
           omega (arith, found.0, place_is),
           omega (arith, length-append h.texts (text ∷ rest)),
-          subst (λ (r : Result (List (List Op)) Refusal). IsOk r) (sym (ap (scripts_of c) before ∙ h.good)) refl,
+          subst (λ (r : Result (List (List Op)) Refusal). IsOk r) (sym (ap (scripts_from c first) before ∙ h.good)) refl,
           subst (λ n. Rose n f2.faults) h.stands found.1,
         )
     finds Memory text rest found = found ∙ h.stands
 
     -- the next could not be read, or is refused
-    pub front_stops : (s : Stop) (rest : List (List ℕ)) → Loads {X = List Op} f1 f2 told file (in_file file (script_in c)) (Err s) → LoadsScripts c (names ++ name ∷ rest) f0 f2 (Err s)
+    pub front_stops : (s : Stop) (rest : List (List ℕ)) → Loads {X = List Op} f1 f2 told file (in_file file (script_in c)) (Err s) → LoadsScripts c first (names ++ name ∷ rest) f0 f2 (Err s)
     front_stops s rest loads =
         let l = found_at name named place loads in
         record {
@@ -155,7 +160,7 @@ module _ (c : Configuration) (f0 f1 : FilesState) (names : List (List ℕ)) (scr
         }
 
   -- memory was wanted
-  pub front_wants : (all : List (List ℕ)) → LoadsScripts c all f0 f1 (Err Memory)
+  pub front_wants : (all : List (List ℕ)) → LoadsScripts c first all f0 f1 (Err Memory)
   front_wants all = record { texts = some_texts f0 all; told = some_texts_are f0 all; finds = h.stands; grows = omega (arith, h.stands) }
 
 -- the words up to a place, the word there, and those behind it

@@ -1,13 +1,19 @@
 -- What a call may answer, and the text beside it.
 use Rattle.std.specs.Prelude.{◌≡◌, ℕ, zero, suc, ◌≤◌, Bool, true, false, List, [], ◌∷◌, codes, Option, Some, None, Result, Ok, Err, ◌⊎◌}
 use Rattle.std.specs.Fmt.{decimal}
+use Rattle.mi_base.specs.declared.records.Op.{Op}
+use Rattle.mi_base.specs.declared.records.ScheduleItem.{ScheduleItem}
+use Rattle.mi_base.specs.declared.refusals.NoMemory.{NoMemory}
+use Rattle.mi_base.specs.Configuration.{Configuration}
 use Rattle.mi_input.specs.declared.faults.Reason.{Reason}
 use Rattle.mi_input.specs.declared.faults.Reason.TheVariants as reason
 use Rattle.mi_outside.specs.Outside.{Rose, SendsPart, SendsWhole}
 use Rattle.mi_outside.specs.States.{FilesState, SinkState}
-use Rattle.mi_replay.specs.Outcomes.{Played}
+use Rattle.mi_replay.specs.Headlines.{Headline}
+use Rattle.mi_replay.specs.InOrder.{InOrder}
+use Rattle.mi_replay.specs.Outcomes.{is_short_of}
 use Rattle.mi_tree.specs.declared.outcomes.Outcome.{Outcome}
-use Rattle.mi_print.specs.Render.{line, number_line, rendering}
+use Rattle.mi_print.specs.Render.{line, number_line, rendering, transcript}
 use Rattle.mi_table.specs.declared.faults.TableFault.{TableFault}
 use Rattle.mi_table.specs.declared.faults.TableFault.TheVariants as table
 use Rattle.mindex.specs.declared.refusals.Refusal.{Refusal}
@@ -15,7 +21,7 @@ use Rattle.mindex.specs.declared.refusals.Refusal.TheVariants.{Record, Table}
 use Rattle.mindex.specs.declared.statuses.Status.{Status}
 use Rattle.mindex.specs.declared.statuses.Status.TheVariants as status
 use Rattle.mindex.specs.Statuses.{status_number}
-use Rattle.mindex.specs.Inputs.{Names, Texts, Inputs, AreTextsOf, EachHas, inputs_of, GoodBefore}
+use Rattle.mindex.specs.Inputs.{Names, Texts, Inputs, AreTextsOf, EachHas, MayHave, inputs_of, GoodBefore}
 
 abbrev pub usage_line : List ℕ
 usage_line = line (codes "usage: mindex replay SETTINGS SCHEDULE SCRIPT... | run SETTINGS SCRIPT... | make SEED | choose SETTINGS SCRIPT COUNT") []
@@ -57,12 +63,17 @@ refusal_status (Record zero number why) = status.BadSettings
 refusal_status (Record (suc file) number why) = status.BadFile
 refusal_status (Table fault) = status.BadSettings
 
--- THE HEADLINE. The text is the transcript of an outcome of the scripts after the schedule.
-pub record IsTranscript (inputs : Inputs) (short : Bool) (text : List ℕ) : Type 0 where
+-- THE HEADLINE. The text is the transcript of an outcome of the scripts, whoever ran them and in whatever order.
+pub record IsTranscript (c : Configuration) (scripts : List (List Op)) (short : Bool) (text : List ℕ) : Type 0 where
   pub outcome : Outcome
-  pub played : Played inputs.settings inputs.scripts inputs.schedule outcome
+  pub headline : Headline c scripts outcome
   pub short_is : short ≡ outcome.short
-  pub text_is : text ≡ rendering inputs.settings outcome.replies outcome.log outcome.entries outcome.allotted
+  pub text_is : text ≡ rendering c outcome.replies outcome.log outcome.entries outcome.allotted
+
+-- Where there is a schedule, the outcome is of a run in its order, and is short only where memory was wanted.
+abbrev pub KeepsSchedule : Configuration → List (List Op) → Option (List ScheduleItem) → Outcome → Type 0
+KeepsSchedule c scripts None o = Unit {0}
+KeepsSchedule c scripts (Some items) o = (order : InOrder c scripts items o) × (o.short ≡ is_short_of c scripts items o order)
 
 -- a file isn't of its form: the first in the order of the words, by what was found in the files
 pub record IsRefusal {X : Type 0} (found : Result X Refusal) (said : Status) (text : List ℕ) : Type 0 where
@@ -88,7 +99,8 @@ transcript_status false = status.Done
 -- inputs were run
 pub record RunsTo (inputs : Inputs) (said : Status) (text : List ℕ) : Type 0 where
   pub short : Bool
-  pub ran : IsTranscript inputs short text
+  pub ran : IsTranscript inputs.settings inputs.scripts short text
+  pub order : KeepsSchedule inputs.settings inputs.scripts inputs.schedule ran.outcome
   pub said_is : said ≡ transcript_status short
 
 -- the inputs that the texts are were run
@@ -101,6 +113,15 @@ pub record IsRun (texts : Texts) (said : Status) (text : List ℕ) : Type 0 wher
 pub record IsWant (said : Status) (text : List ℕ) : Type 0 where
   pub said_is : said ≡ status.NoMemory
   pub text_is : text ≡ memory_line
+
+-- what is said of inputs
+abbrev pub RunSays : Inputs → Status → List ℕ → Type 0
+RunSays inputs said text = RunsTo inputs said text ⊎ IsWant said text
+
+-- what is said of an outcome, or of the want of memory in its place
+abbrev pub OutcomeSays : Result Outcome NoMemory → Status → List ℕ → Type 0
+OutcomeSays (Ok o) said text = (said ≡ transcript_status o.short) × (text ≡ transcript o.replies o.log o.cells o.entries o.allotted o.limit)
+OutcomeSays (Err e) said text = IsWant said text
 
 -- what is said where no read failed
 abbrev pub SaysOf : Texts → Status → List ℕ → Type 0
@@ -136,17 +157,17 @@ pub record Answered (Saying : FilesState → FilesState → Status → List ℕ 
   pub number_is : number ≡ status_number ended
   pub answers : Answers Saying old new out out' ended
 
--- what the run of inputs says
-pub record Replayed (inputs : Inputs) (old new : SinkState) (ended : Status) : Type 0 where
+-- something is said, of what may be said, and sent
+pub record Spoken (Saying : Status → List ℕ → Type 0) (old new : SinkState) (ended : Status) : Type 0 where
   pub said : Status
   pub text : List ℕ
-  pub says : RunsTo inputs said text ⊎ IsWant said text
+  pub says : Saying said text
   pub ends : Ends said text old new ended
 
 -- the files tell these texts
 pub record Tells (files : FilesState) (names : Names) (texts : Texts) : Type 0 where
   pub settings : files.content names.settings ≡ Some texts.settings
-  pub schedule : files.content names.schedule ≡ Some texts.schedule
+  pub schedule : MayHave (λ name text. files.content name ≡ Some text) names.schedule texts.schedule
   pub scripts : EachHas (λ name text. files.content name ≡ Some text) names.scripts texts.scripts
 
 -- the number of a call that ran its inputs, or that wanted memory

@@ -15,28 +15,38 @@ use Rattle.mi_table.specs.Faults.{first_fault}
 use Rattle.mindex.specs.declared.refusals.Refusal.{Refusal}
 use Rattle.mindex.specs.declared.refusals.Refusal.TheVariants.{Record, Table}
 
--- the names of the settings, the schedule and the scripts
+-- the names of the settings, of the schedule where there is one, and of the scripts
 pub record Names : Type 0 where
   pub settings : List ℕ
-  pub schedule : List ℕ
+  pub schedule : Option (List ℕ)
   pub scripts : List (List ℕ)
 
 -- a script for each of 1 to 16 sessions
 abbrev pub are_sessions : List (List ℕ) → Bool
 are_sessions scripts = nat_le 1 (length scripts) && nat_le (length scripts) MAX_SESSIONS
 
--- the words that are served are a command, the names of the settings and the schedule, and those of the scripts
-abbrev pub names_in : List (List ℕ) → Option Names
-names_in (command ∷ settings ∷ schedule ∷ scripts) =
-    if bytes_eq command (codes "replay") && are_sessions scripts then Some (record { settings = settings; schedule = schedule; scripts = scripts }) else None
-names_in [] = None
-names_in (a ∷ []) = None
-names_in (a ∷ b ∷ []) = None
+-- the names are served where they stand behind the word of the command, and name scripts for sessions
+abbrev pub served : Bool → Names → Option Names
+served is_command names = if is_command && are_sessions names.scripts then Some names else None
+
+-- the words of a replay are the command, the names of the settings and the schedule, and those of the scripts
+abbrev pub replay_names_in : List (List ℕ) → Option Names
+replay_names_in (command ∷ settings ∷ schedule ∷ scripts) =
+    served (bytes_eq command (codes "replay")) (record { settings = settings; schedule = Some schedule; scripts = scripts })
+replay_names_in [] = None
+replay_names_in (a ∷ []) = None
+replay_names_in (a ∷ b ∷ []) = None
+
+-- those of a run in threads have no schedule
+abbrev pub run_names_in : List (List ℕ) → Option Names
+run_names_in (command ∷ settings ∷ scripts) = served (bytes_eq command (codes "run")) (record { settings = settings; schedule = None; scripts = scripts })
+run_names_in [] = None
+run_names_in (a ∷ []) = None
 
 -- the texts of the files
 pub record Texts : Type 0 where
   pub settings : List ℕ
-  pub schedule : List ℕ
+  pub schedule : Option (List ℕ)
   pub scripts : List (List ℕ)
 
 -- each name has its text
@@ -45,6 +55,13 @@ EachHas its [] [] = Unit {0}
 EachHas its (name ∷ names) (text ∷ texts) = its name text × EachHas its names texts
 EachHas its (name ∷ names) [] = ⊥
 EachHas its [] (text ∷ texts) = ⊥
+
+-- the name of a schedule has its text
+abbrev pub MayHave : (List ℕ → List ℕ → Type 0) → Option (List ℕ) → Option (List ℕ) → Type 0
+MayHave its None None = Unit {0}
+MayHave its (Some name) (Some text) = its name text
+MayHave its (Some name) None = ⊥
+MayHave its None (Some text) = ⊥
 
 -- a text is that of a file, where the file tells its content
 abbrev pub IsTextOf : Option (List ℕ) → List ℕ → Type 0
@@ -55,7 +72,7 @@ AreScriptTexts files names texts = EachHas (λ name text. IsTextOf (files.conten
 
 pub record AreTextsOf (files : FilesState) (names : Names) (texts : Texts) : Type 0 where
   pub settings : IsTextOf (files.content names.settings) texts.settings
-  pub schedule : IsTextOf (files.content names.schedule) texts.schedule
+  pub schedule : MayHave (λ name text. IsTextOf (files.content name) text) names.schedule texts.schedule
   pub scripts : AreScriptTexts files names.scripts texts.scripts
 
 -- a fault with the place of its file
@@ -79,9 +96,14 @@ settings_from text = in_file 0 settings_in text >>= λ c. settings_or_fault c (f
 abbrev pub settings_of : Texts → Result Configuration Refusal
 settings_of texts = settings_from texts.settings
 
--- the schedule gives turns to as many sessions as there are scripts
-abbrev pub schedule_of : Texts → Result (List ScheduleItem) Refusal
-schedule_of texts = in_file 1 (schedule_in (length texts.scripts)) texts.schedule
+-- a schedule that there is gives turns to so many sessions
+abbrev pub schedule_from : ℕ → Option (List ℕ) → Result (Option (List ScheduleItem)) Refusal
+schedule_from sessions None = Ok None
+schedule_from sessions (Some text) = in_file 1 (schedule_in sessions) text >>= λ items. Ok (Some items)
+
+-- they are as many as there are scripts
+abbrev pub schedule_of : Texts → Result (Option (List ScheduleItem)) Refusal
+schedule_of texts = schedule_from (length texts.scripts) texts.schedule
 
 -- the scripts that texts are, the first of which is the file at this place, or the first refusal
 abbrev pub scripts_from : Configuration → ℕ → List (List ℕ) → Result (List (List Op)) Refusal
@@ -91,14 +113,15 @@ scripts_from c file (text ∷ texts) = do
   scripts ← scripts_from c (file + 1) texts
   Ok (script ∷ scripts)
 
--- they stand behind the settings and the schedule
-abbrev pub scripts_of : Configuration → List (List ℕ) → Result (List (List Op)) Refusal
-scripts_of c texts = scripts_from c 2 texts
+-- the place of the first script, behind the settings and the schedule
+abbrev pub first_script : Option (List ℕ) → ℕ
+first_script None = 1
+first_script (Some schedule) = 2
 
--- what a call runs
+-- what a call runs, after a schedule or in threads
 pub record Inputs : Type 0 where
   pub settings : Configuration
-  pub schedule : List ScheduleItem
+  pub schedule : Option (List ScheduleItem)
   pub scripts : List (List Op)
 
 -- the inputs that the texts are, or the first refusal in the order of the files
@@ -106,7 +129,7 @@ abbrev pub inputs_of : Texts → Result Inputs Refusal
 inputs_of texts = do
   c ← settings_of texts
   items ← schedule_of texts
-  scripts ← scripts_of c texts.scripts
+  scripts ← scripts_from c (first_script texts.schedule) texts.scripts
   Ok (record { settings = c; schedule = items; scripts = scripts })
 
 -- so many scripts are good, and there is one more
@@ -115,10 +138,14 @@ pub record ScriptsGoodBefore (count : ℕ) (texts : Texts) : Type 0 where
   pub settings : Configuration
   pub settings_are : settings_of texts ≡ Ok settings
   pub schedule : IsOk (schedule_of texts)
-  pub scripts : IsOk (scripts_of settings (take count texts.scripts))
+  pub scripts : IsOk (scripts_from settings (first_script texts.schedule) (take count texts.scripts))
 
--- each file before this one is good
+-- each file before this one is good: behind the settings comes the schedule, where there is one, and then come the scripts
+abbrev pub AreGoodBefore : ℕ → Option (List ℕ) → Texts → Type 0
+AreGoodBefore zero schedule texts = Unit {0}
+AreGoodBefore (suc count) None texts = ScriptsGoodBefore count texts
+AreGoodBefore (suc zero) (Some schedule) texts = IsOk (settings_of texts)
+AreGoodBefore (suc (suc count)) (Some schedule) texts = ScriptsGoodBefore count texts
+
 abbrev pub GoodBefore : ℕ → Texts → Type 0
-GoodBefore zero texts = Unit {0}
-GoodBefore (suc zero) texts = IsOk (settings_of texts)
-GoodBefore (suc (suc count)) texts = ScriptsGoodBefore count texts
+GoodBefore file texts = AreGoodBefore file texts.schedule texts

@@ -1,5 +1,5 @@
 -- How the files of a call are read and found good or not.
-use Rattle.std.specs.Prelude.{◌≡◌, ℕ, suc, ◌<◌, ◌≤◌, List, length, take, None, Some, Result, Ok, Err, IsOk}
+use Rattle.std.specs.Prelude.{◌≡◌, ℕ, ◌+◌, ◌<◌, ◌≤◌, List, length, take, None, Some, Result, Ok, Err, IsOk}
 use Rattle.std.specs.List.{AllByRecursion}
 use Rattle.mi_base.specs.declared.limits.TheConstants.{MAX_SESSIONS}
 use Rattle.mi_base.specs.declared.records.Op.{Op}
@@ -21,10 +21,12 @@ use Rattle.mindex.specs.declared.refusals.Refusal.TheVariants.{Record, Table}
 use Rattle.mindex.specs.declared.refusals.Stop.{Stop}
 use Rattle.mindex.specs.declared.refusals.Stop.TheVariants.{Refused, Unread, Memory}
 use Rattle.mindex.specs.declared.loading.Loaded.{Loaded}
+use Rattle.mindex.specs.declared.loading.Measured.{Measured}
+use Rattle.mindex.specs.declared.loading.Scheduled.{Scheduled}
 use Rattle.mindex.specs.declared.statuses.Status.{Status}
 use Rattle.mindex.specs.declared.statuses.Status.TheVariants as status
 use Rattle.mindex.specs.Calls.{memory_line, refusal_line, refusal_status, unread_line}
-use Rattle.mindex.specs.Inputs.{Names, Texts, Inputs, IsTextOf, AreScriptTexts, AreTextsOf, GoodBefore, inputs_of, scripts_of}
+use Rattle.mindex.specs.Inputs.{Names, Texts, Inputs, IsTextOf, AreScriptTexts, AreTextsOf, GoodBefore, inputs_of, scripts_from}
 
 -- one file was read, and this was found in it; file is its place
 abbrev pub Finds : {X : Type 0} → ℕ → FilesState → FilesState → Result X Refusal → Result X Stop → Type 0
@@ -40,6 +42,11 @@ pub record Loads {X : Type 0} (old new : FilesState) (name : List ℕ) (file : �
   pub finds : Finds file old new (looks text) result
   pub grows : old.faults ≤ new.faults
 
+-- what was read, seen in another way
+abbrev pub seen_as : {X Y : Type 0} → (X → Y) → Result X Stop → Result Y Stop
+seen_as view (Ok x) = Ok (view x)
+seen_as view (Err stop) = Err stop
+
 -- the metric of settings, or why there is none
 abbrev pub HasMetric : Configuration → Result AnyMetric Stop → Type 0
 HasMetric c (Ok m) = (any_space m ≡ metric_space c) × (first_fault c.rows ≡ None)
@@ -48,41 +55,57 @@ HasMetric c (Err (Refused (Record file number why))) = ⊥
 HasMetric c (Err (Unread file)) = ⊥
 HasMetric c (Err Memory) = Unit {0}
 
--- inputs as contracts see them
-abbrev pub inputs_in : Loaded → Inputs
-inputs_in l = record { settings = l.settings; schedule = l.schedule; scripts = l.scripts }
+-- settings whose metric is there
+abbrev pub measured_settings : Measured → Configuration
+measured_settings m = m.settings
 
--- inputs that may be run
+abbrev pub HasItsMetric : Measured → Type 0
+HasItsMetric m = any_space m.metric ≡ metric_space m.settings
+
+-- the inputs of a run in threads, and of a replay, as contracts see them
+abbrev pub inputs_in : Loaded → Inputs
+inputs_in l = record { settings = l.settings; schedule = None; scripts = l.scripts }
+
+abbrev pub scheduled_in : Scheduled → Inputs
+scheduled_in s = record { settings = s.loaded.settings; schedule = Some s.schedule; scripts = s.loaded.scripts }
+
+-- settings and scripts that may be run
 pub record MayRun (l : Loaded) : Type 0 where
   pub space : any_space l.metric ≡ metric_space l.settings
   pub some : 1 ≤ length l.scripts
   pub few : length l.scripts ≤ MAX_SESSIONS
-  pub schedule : IsScheduleOf (length l.scripts) l.schedule
   pub scripts : AllByRecursion (IsScriptOver (metric_space l.settings)) l.scripts
 
--- what the texts of scripts are, as far as they were read
-abbrev pub FindsScripts : Configuration → List (List ℕ) → FilesState → FilesState → Result (List (List Op)) Stop → Type 0
-FindsScripts c texts old new (Ok scripts) = (scripts_of c texts ≡ Ok scripts) × AllByRecursion (IsScriptOver (metric_space c)) scripts × (new.faults ≡ old.faults)
-FindsScripts c texts old new (Err (Refused refusal)) = (scripts_of c texts ≡ Err refusal) × (new.faults ≡ old.faults)
-FindsScripts c texts old new (Err (Unread file)) = (count : ℕ) × (file ≡ suc (suc count)) × (count < length texts) × IsOk (scripts_of c (take count texts)) × Rose old.faults new.faults
-FindsScripts c texts old new (Err Memory) = new.faults ≡ old.faults
+-- those that may be run after their schedule
+pub record MayReplay (s : Scheduled) : Type 0 where
+  pub loaded : MayRun s.loaded
+  pub schedule : IsScheduleOf (length s.loaded.scripts) s.schedule
+
+-- what the texts of scripts are, as far as they were read; the first is the file at this place
+abbrev pub FindsScripts : Configuration → ℕ → List (List ℕ) → FilesState → FilesState → Result (List (List Op)) Stop → Type 0
+FindsScripts c first texts old new (Ok scripts) =
+    (scripts_from c first texts ≡ Ok scripts) × AllByRecursion (IsScriptOver (metric_space c)) scripts × (new.faults ≡ old.faults)
+FindsScripts c first texts old new (Err (Refused refusal)) = (scripts_from c first texts ≡ Err refusal) × (new.faults ≡ old.faults)
+FindsScripts c first texts old new (Err (Unread file)) =
+    (count : ℕ) × (file ≡ first + count) × (count < length texts) × IsOk (scripts_from c first (take count texts)) × Rose old.faults new.faults
+FindsScripts c first texts old new (Err Memory) = new.faults ≡ old.faults
 
 -- the scripts of these names were read one after another, as far as needed
-pub record LoadsScripts (c : Configuration) (names : List (List ℕ)) (old new : FilesState) (result : Result (List (List Op)) Stop) : Type 0 where
+pub record LoadsScripts (c : Configuration) (first : ℕ) (names : List (List ℕ)) (old new : FilesState) (result : Result (List (List Op)) Stop) : Type 0 where
   pub texts : List (List ℕ)
   pub told : AreScriptTexts old names texts
-  pub finds : FindsScripts c texts old new result
+  pub finds : FindsScripts c first texts old new result
   pub grows : old.faults ≤ new.faults
 
 -- what the texts are, as far as they were read
-abbrev pub FindsAll : Texts → FilesState → FilesState → Result Loaded Stop → Type 0
-FindsAll texts old new (Ok l) = (inputs_of texts ≡ Ok (inputs_in l)) × MayRun l × (new.faults ≡ old.faults)
+abbrev pub FindsAll : Texts → FilesState → FilesState → Result Inputs Stop → Type 0
+FindsAll texts old new (Ok inputs) = (inputs_of texts ≡ Ok inputs) × (new.faults ≡ old.faults)
 FindsAll texts old new (Err (Refused refusal)) = (inputs_of texts ≡ Err refusal) × (new.faults ≡ old.faults)
 FindsAll texts old new (Err (Unread file)) = GoodBefore file texts × Rose old.faults new.faults
 FindsAll texts old new (Err Memory) = new.faults ≡ old.faults
 
 -- all files were read, as far as needed
-pub record LoadsAll (names : Names) (old new : FilesState) (result : Result Loaded Stop) : Type 0 where
+pub record LoadsAll (names : Names) (old new : FilesState) (result : Result Inputs Stop) : Type 0 where
   pub texts : Texts
   pub told : AreTextsOf old names texts
   pub finds : FindsAll texts old new result

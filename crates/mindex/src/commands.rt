@@ -12,6 +12,8 @@ pub enum Command {
     Make,
     /// To replay scripts, or to tell that the words name no command.
     Replay,
+    /// To run scripts in threads.
+    Run,
 }
 
 fn begins_with(words: &[String], command: &str) -> bool
@@ -28,6 +30,8 @@ pub fn command_of(words: &[String]) -> Command
         Command::Choose
     } else if begins_with(words, "make") {
         Command::Make
+    } else if begins_with(words, "run") {
+        Command::Run
     } else {
         Command::Replay
     }

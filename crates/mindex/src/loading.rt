@@ -1,5 +1,5 @@
 //! Reads the files of a call, in the order of the words.
-ghost use Rattle.std.specs.Prelude.{◌≡◌, ◌≤◌, IfOk, length, map};
+ghost use Rattle.std.specs.Prelude.{◌≡◌, ◌≤◌, IfOk, None, Some, length, map};
 ghost use Rattle.std.specs.String.{string_bytes};
 ghost use Rattle.mi_base.specs.declared.limits.TheConstants.{MAX_SESSIONS};
 ghost use Rattle.mi_base.specs.Configuration.{metric_space};
@@ -8,8 +8,9 @@ ghost use Rattle.mi_input.specs.Schedules.{IsScheduleOf, schedule_in};
 ghost use Rattle.mi_input.specs.Scripts.{script_in};
 ghost use Rattle.mi_input.specs.Settings.{settings_in};
 ghost use Rattle.mi_outside.specs.Outside.{KeepsContents};
-ghost use Rattle.mindex.specs.Inputs.{in_file};
-ghost use Rattle.mindex.specs.Loading.{HasMetric, Loads, LoadsAll, LoadsScripts, fault_stop, refusal_stop};
+ghost use Rattle.mindex.specs.Inputs.{in_file, settings_from};
+ghost use Rattle.mindex.specs.Loading.{HasItsMetric, HasMetric, Loads, LoadsAll, LoadsScripts, MayReplay, MayRun, fault_stop};
+ghost use Rattle.mindex.specs.Loading.{inputs_in, measured_settings, refusal_stop, scheduled_in, seen_as};
 
 use crate::refusals::{Refusal, Stop};
 use mi_base::{Schedule, Script, Sequence, Settings};
@@ -21,13 +22,39 @@ use std::alloc::Global;
 /// The scripts of all sessions.
 pub type Scripts = Sequence<Script>;
 
+/// Settings whose metric is there.
+#[derive(Drop)]
+struct Measured {
+    settings: Settings,
+    metric: AnyMetric,
+}
+
+impl Measured {
+    /// The same with scripts.
+    fn loaded(self, scripts: Scripts) -> Loaded
+        ensures { result ≡ record { settings = self.settings; metric = self.metric; scripts = scripts } }
+    {
+        Loaded {
+            settings: self.settings,
+            metric: self.metric,
+            scripts,
+        }
+    }
+}
+
 /// What a call runs.
 #[derive(Drop)]
 pub struct Loaded {
     pub settings: Settings,
     pub metric: AnyMetric,
-    pub schedule: Schedule,
     pub scripts: Scripts,
+}
+
+/// What a call runs after a schedule.
+#[derive(Drop)]
+pub struct Scheduled {
+    pub loaded: Loaded,
+    pub schedule: Schedule,
 }
 
 /// A file that is too large has no record that is looked at.
@@ -112,20 +139,22 @@ pub fn load_script<F: Files>(
     }
 }
 
-/// Reads the scripts in their order. They stand behind the settings and the schedule.
+/// Reads the scripts in their order, the first of which stands at this place among the names.
 fn load_scripts<F: Files>(
     alloc: Global,
     names: &[String],
+    first: u32,
     settings: &Settings,
     files: &mut F,
 ) -> Result<Scripts, Stop>
-    requires { length names.now ≤ MAX_SESSIONS }
-    ensures loads { LoadsScripts settings.now (map string_bytes names.now) (F.state files.old) (F.state files.new) result }
+    requires few { length names.now ≤ MAX_SESSIONS }
+    requires first { first ≤ 2 }
+    ensures loads { LoadsScripts settings.now first (map string_bytes names.now) (F.state files.old) (F.state files.new) result }
     ensures contents { KeepsContents (F.state files.old) (F.state files.new) }
 {
     let mut scripts = Scripts::new(alloc);
     for name in names {
-        let file = scripts.len() as u32 + 2;
+        let file = first + scripts.len() as u32;
         let script = load_script(alloc, name.as_str(), file, settings, files)?;
         scripts.push(script)?;
     }
@@ -143,28 +172,55 @@ pub fn metric_of(alloc: Global, settings: &Settings) -> Result<AnyMetric, Stop>
     }
 }
 
-/// Reads the settings, the schedule and the scripts, each before the next.
+/// Reads the settings and makes their metric, before any other file is read.
+fn load_measured<F: Files>(alloc: Global, name: &str, files: &mut F) -> Result<Measured, Stop>
+    ensures loads { Loads (F.state files.old) (F.state files.new) name.now 0 settings_from (seen_as measured_settings result) }
+    ensures contents { KeepsContents (F.state files.old) (F.state files.new) }
+    ensures metric { IfOk result HasItsMetric }
+{
+    let settings = load_settings(alloc, name, files)?;
+    let metric = metric_of(alloc, &settings)?;
+    Ok(Measured { settings, metric })
+}
+
+/// Reads the settings and the scripts, each before the next.
 pub fn load<F: Files>(
     alloc: Global,
     settings_name: &str,
-    schedule_name: &str,
     script_names: &[String],
     files: &mut F,
 ) -> Result<Loaded, Stop>
     requires some { 1 ≤ length script_names.now }
     requires few { length script_names.now ≤ MAX_SESSIONS }
-    ensures loads { LoadsAll (record { settings = settings_name.now; schedule = schedule_name.now; scripts = map string_bytes script_names.now }) (F.state files.old) (F.state files.new) result }
+    ensures loads { LoadsAll (record { settings = settings_name.now; schedule = None; scripts = map string_bytes script_names.now }) (F.state files.old) (F.state files.new) (seen_as inputs_in result) }
     ensures contents { KeepsContents (F.state files.old) (F.state files.new) }
+    ensures may { IfOk result MayRun }
 {
-    let settings = load_settings(alloc, settings_name, files)?;
-    let metric = metric_of(alloc, &settings)?;
+    let measured = load_measured(alloc, settings_name, files)?;
+    let scripts = load_scripts(alloc, script_names, 1, &measured.settings, files)?;
+    Ok(measured.loaded(scripts))
+}
+
+/// Reads the settings, the schedule and the scripts, each before the next.
+pub fn load_scheduled<F: Files>(
+    alloc: Global,
+    settings_name: &str,
+    schedule_name: &str,
+    script_names: &[String],
+    files: &mut F,
+) -> Result<Scheduled, Stop>
+    requires some { 1 ≤ length script_names.now }
+    requires few { length script_names.now ≤ MAX_SESSIONS }
+    ensures loads { LoadsAll (record { settings = settings_name.now; schedule = Some schedule_name.now; scripts = map string_bytes script_names.now }) (F.state files.old) (F.state files.new) (seen_as scheduled_in result) }
+    ensures contents { KeepsContents (F.state files.old) (F.state files.new) }
+    ensures may { IfOk result MayReplay }
+{
+    let measured = load_measured(alloc, settings_name, files)?;
     let sessions = script_names.len() as u32;
     let schedule = load_schedule(alloc, schedule_name, sessions, files)?;
-    let scripts = load_scripts(alloc, script_names, &settings, files)?;
-    Ok(Loaded {
-        settings,
-        metric,
+    let scripts = load_scripts(alloc, script_names, 2, &measured.settings, files)?;
+    Ok(Scheduled {
+        loaded: measured.loaded(scripts),
         schedule,
-        scripts,
     })
 }

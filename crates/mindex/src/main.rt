@@ -1,5 +1,5 @@
-//! An exact similarity index in memory: replays scripts of updates and queries, proposes pivots, and
-//! makes workloads.
+//! An exact similarity index in memory: runs scripts of updates and queries in threads, replays them
+//! after a schedule, proposes pivots, and makes workloads.
 #![tactic(auto)]
 
 ghost use Rattle.std.specs.Prelude.{map};
@@ -17,6 +17,7 @@ mod making;
 mod proposals;
 mod refusals;
 mod replaying;
+mod running;
 mod statuses;
 #[cfg(test)]
 mod tests;
@@ -30,6 +31,7 @@ use making::make_call;
 use mi_outside::{Files, Gate, OpenGate, Sink};
 use refusals::Stop;
 use replaying::{replay_call, stopped};
+use running::run_call;
 use std::alloc::Global;
 use std::io::ErrorKind;
 use std::process::ExitCode;
@@ -39,12 +41,12 @@ use std::{env, io};
 
 /// Runs the command that the words name. They are those behind the program's name.
 pub fn mindex<R: Threads + Wait + Sync, F: Files, S: Sink, G: Gate>(
-    _rt: &R,
+    rt: &R,
     alloc: Global,
     words: &[String],
     files: &mut F,
     out: &mut S,
-    _gate: &G,
+    gate: &G,
 ) -> u8
     ensures answered { Answered (CommandSays (command_in (map string_bytes words.now)) (map string_bytes words.now)) (F.state files.old) (F.state files.new) (S.state out.old) (S.state out.new) result }
     ensures complete { CommandCompletes (command_in (map string_bytes words.now)) (map string_bytes words.now) (F.state files.old) (F.state files.new) (S.state out.old) (S.state out.new) result }
@@ -54,6 +56,7 @@ pub fn mindex<R: Threads + Wait + Sync, F: Files, S: Sink, G: Gate>(
         Command::Choose => choose_call(alloc, words, files, out),
         Command::Make => make_call(alloc, words, out),
         Command::Replay => replay_call(alloc, words, files, out),
+        Command::Run => run_call(rt, alloc, words, files, out, gate),
     }
 }
 

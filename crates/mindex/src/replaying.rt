@@ -3,12 +3,11 @@ ghost use Rattle.std.specs.Prelude.{◌≡◌, ◌+◌, ◌≤◌, IfOk, OnErr, 
 ghost use Rattle.std.specs.String.{string_bytes};
 ghost use Rattle.mi_outside.specs.Outside.{KeepsContents};
 ghost use Rattle.mi_replay.specs.Outcomes.{Played};
-ghost use Rattle.mindex.specs.Calls.{Answered, Answers, Completes, Ends, Replayed, Says};
-ghost use Rattle.mindex.specs.Calls.{transcript_status};
-ghost use Rattle.mindex.specs.Inputs.{names_in};
-ghost use Rattle.mindex.specs.Loading.{MayRun, inputs_in, stop_line, stop_status};
+ghost use Rattle.mindex.specs.Calls.{Answered, Answers, Completes, Ends, OutcomeSays, RunSays, Says, Spoken, transcript_status};
+ghost use Rattle.mindex.specs.Inputs.{replay_names_in};
+ghost use Rattle.mindex.specs.Loading.{MayReplay, scheduled_in, stop_line, stop_status};
 
-use crate::loading::{Loaded, load};
+use crate::loading::{Scheduled, load_scheduled};
 use crate::refusals::Stop;
 use crate::statuses::Status;
 use crate::texts::{refusal_status, send_memory, send_refusal, send_unread, send_usage};
@@ -42,32 +41,39 @@ pub fn status_of(outcome: &Outcome) -> Status
     }
 }
 
-/// Runs the scripts after the schedule.
-fn play(alloc: Global, inputs: &Loaded) -> Result<Outcome, NoMemory>
-    requires { MayRun inputs.now }
-    ensures { IfOk result (Played inputs.now.settings inputs.now.scripts inputs.now.schedule) }
+/// Sends what scripts left: the transcript, or the line of want of memory.
+pub fn tell<S: Sink>(outcome: Result<Outcome, NoMemory>, out: &mut S) -> Status
+    ensures { Spoken (OutcomeSays outcome) (S.state out.old) (S.state out.new) result }
 {
-    let pivots = Pivots::new(alloc, &inputs.settings.pivots)?;
-    let scripts = inputs.scripts.as_slice();
+    match outcome {
+        Ok(outcome) => ended(status_of(&outcome), render(&outcome, out)),
+        Err(NoMemory) => ended(Status::NoMemory, send_memory(out)),
+    }
+}
+
+/// Runs the scripts after the schedule.
+fn play(alloc: Global, inputs: &Scheduled) -> Result<Outcome, NoMemory>
+    requires { MayReplay inputs.now }
+    ensures { IfOk result (Played inputs.now.loaded.settings inputs.now.loaded.scripts inputs.now.schedule) }
+{
+    let pivots = Pivots::new(alloc, &inputs.loaded.settings.pivots)?;
+    let scripts = inputs.loaded.scripts.as_slice();
     replay(
         alloc,
-        &inputs.settings,
-        &inputs.metric,
+        &inputs.loaded.settings,
+        &inputs.loaded.metric,
         &pivots,
         scripts,
         &inputs.schedule,
     )
 }
 
-/// Runs the inputs and sends what comes of it: the transcript, or the line of want of memory.
-fn replay_inputs<S: Sink>(alloc: Global, inputs: &Loaded, out: &mut S) -> Status
-    requires { MayRun inputs.now }
-    ensures { Replayed (inputs_in inputs.now) (S.state out.old) (S.state out.new) result }
+/// Replays the inputs and sends what comes of it.
+fn replay_inputs<S: Sink>(alloc: Global, inputs: &Scheduled, out: &mut S) -> Status
+    requires { MayReplay inputs.now }
+    ensures { Spoken (RunSays (scheduled_in inputs.now)) (S.state out.old) (S.state out.new) result }
 {
-    match play(alloc, inputs) {
-        Ok(outcome) => ended(status_of(&outcome), render(&outcome, out)),
-        Err(NoMemory) => ended(Status::NoMemory, send_memory(out)),
-    }
+    tell(play(alloc, inputs), out)
 }
 
 /// Sends the line of a call without inputs.
@@ -83,7 +89,7 @@ pub fn stopped<S: Sink>(stop: Stop, out: &mut S) -> Status
 
 /// The words are a command, two names, and the names of 1 to 16 scripts.
 fn are_served(words: &[String]) -> bool
-    ensures served { result ≡ is_some (names_in (map string_bytes words.now)) }
+    ensures served { result ≡ is_some (replay_names_in (map string_bytes words.now)) }
     ensures some { IsTrue result → 4 ≤ length words.now }
     ensures few { IsTrue result → length words.now ≤ MAX_SESSIONS + 3 }
 {
@@ -96,7 +102,7 @@ fn answer_call<F: Files, S: Sink>(
     files: &mut F,
     out: &mut S,
 ) -> Status
-    ensures answers { Answers (Says (names_in (map string_bytes words.now))) (F.state files.old) (F.state files.new) (S.state out.old) (S.state out.new) result }
+    ensures answers { Answers (Says (replay_names_in (map string_bytes words.now))) (F.state files.old) (F.state files.new) (S.state out.old) (S.state out.new) result }
     ensures contents { KeepsContents (F.state files.old) (F.state files.new) }
 {
     if !are_served(words) {
@@ -104,7 +110,7 @@ fn answer_call<F: Files, S: Sink>(
     }
     let settings = words[1].as_str();
     let schedule = words[2].as_str();
-    match load(alloc, settings, schedule, &words[3..], files) {
+    match load_scheduled(alloc, settings, schedule, &words[3..], files) {
         Ok(inputs) => replay_inputs(alloc, &inputs, out),
         Err(stop) => stopped(stop, out),
     }
@@ -118,9 +124,9 @@ pub fn replay_call<F: Files, S: Sink>(
     out: &mut S,
 ) -> u8
     // What is said, and which status and which bytes come of it.
-    ensures answered { Answered (Says (names_in (map string_bytes words.now))) (F.state files.old) (F.state files.new) (S.state out.old) (S.state out.new) result }
+    ensures answered { Answered (Says (replay_names_in (map string_bytes words.now))) (F.state files.old) (F.state files.new) (S.state out.old) (S.state out.new) result }
     // Good inputs are run.
-    ensures complete { Completes (names_in (map string_bytes words.now)) (F.state files.old) (F.state files.new) (S.state out.old) (S.state out.new) result }
+    ensures complete { Completes (replay_names_in (map string_bytes words.now)) (F.state files.old) (F.state files.new) (S.state out.old) (S.state out.new) result }
     ensures contents { KeepsContents (F.state files.old) (F.state files.new) }
 {
     answer_call(alloc, words, files, out).number()

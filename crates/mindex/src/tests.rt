@@ -4,6 +4,7 @@ mod choices;
 mod makes;
 mod nearest;
 mod queries;
+mod runs;
 mod scans;
 mod schedules;
 mod sessions;
@@ -577,7 +578,7 @@ fn other_words_have_the_usage_line(rt: HostRuntime) -> Result<(), Fail> {
         &["choose", "settings", "script", "33"],
         &["replay"],
         &["replay", "a", "b"],
-        &["run", "a", "b", "c"],
+        &["Run", "a", "b", "c"],
         &["make", "1", "b", "c"],
         &["Replay", "a", "b", "c"],
     ];

@@ -15,9 +15,9 @@ returns-in_err-script-clause-loads g c =
     let name = c.name-item.result in
     let s = c.in_err-script.field-0.0 in
     let p = err_from_is_err_and c.from_residual.result c.from_residual.ensures.1 in
-    let stops = front_stops c.args.settings.now f0 f1 (map string_bytes (take i words)) c.loop-name.scripts c.loop-name.invariant.so_far f2 (string_bytes name) c.as_str.ensures.value (omega (arith, c.len.ensures))
+    let stops = front_stops c.args.settings.now c.args.first f0 f1 (map string_bytes (take i words)) c.loop-name.scripts c.loop-name.invariant.so_far f2 (string_bytes name) c.as_str.ensures.value (omega (arith, c.len.ensures))
     s (map string_bytes (drop (suc i) words)) c.in_err-script.ensures.loads in
-    rw (p.1, p.2) (subst (λ ns. LoadsScripts c.args.settings.now ns f0 f2 (Err s)) (words_around string_bytes words i name (omega arith) c.name-item.is) stops)
+    rw (p.1, p.2) (subst (λ ns. LoadsScripts c.args.settings.now c.args.first ns f0 f2 (Err s)) (words_around string_bytes words i name (omega arith) c.name-item.is) stops)
 
 pub returns-in_err-push-clause-loads : goal.returns-in_err-push-clause-loads
 returns-in_err-push-clause-loads g c =
@@ -30,9 +30,9 @@ returns-in_err-push-clause-loads g c =
     let scripts = c.loop-name.scripts in
     let script = c.in_ok-script.script in
     let p = err_from_is_err_and c.from_residual-in_err-push.result c.from_residual-in_err-push.ensures.1 in
-    let more = front_more c.args.settings.now f0 f1 front scripts c.loop-name.invariant.so_far f2 name c.as_str.ensures.value (omega (arith, c.len.ensures))
+    let more = front_more c.args.settings.now c.args.first f0 f1 front scripts c.loop-name.invariant.so_far f2 name c.as_str.ensures.value (omega (arith, c.len.ensures))
     script c.in_ok-script.ensures.loads c.load_script.ensures.contents c.in_ok-script.ensures.script in
-    rw (p.1, p.2) (front_wants c.args.settings.now f0 f2 (front ++ name ∷ []) (scripts ++ script ∷ []) more (map string_bytes words))
+    rw (p.1, p.2) (front_wants c.args.settings.now c.args.first f0 f2 (front ++ name ∷ []) (scripts ++ script ∷ []) more (map string_bytes words))
 
 pub loop-name-preserved : goal.loop-name-preserved
 loop-name-preserved g c =
@@ -45,9 +45,9 @@ loop-name-preserved g c =
     let front = map string_bytes (take i words) in
     let scripts = c.loop-name.scripts in
     let script = c.in_ok-script.script in
-    let more = front_more c.args.settings.now f0 f1 front scripts c.loop-name.invariant.so_far f2 (string_bytes name) c.as_str.ensures.value (omega (arith, c.len.ensures))
+    let more = front_more c.args.settings.now c.args.first f0 f1 front scripts c.loop-name.invariant.so_far f2 (string_bytes name) c.as_str.ensures.value (omega (arith, c.len.ensures))
     script c.in_ok-script.ensures.loads c.load_script.ensures.contents c.in_ok-script.ensures.script in
     rw (c.in_ok-push.ensures.ok, add-one i) record {
-      so_far = subst (λ ns. Front c.args.settings.now f0 f2 ns (scripts ++ script ∷ [])) (words_to string_bytes words i name (omega arith) c.name-item.is) more;
+      so_far = subst (λ ns. Front c.args.settings.now c.args.first f0 f2 ns (scripts ++ script ∷ [])) (words_to string_bytes words i name (omega arith) c.name-item.is) more;
       count = omega (arith, length-append scripts (script ∷ []));
     }

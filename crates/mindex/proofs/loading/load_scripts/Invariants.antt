@@ -6,6 +6,6 @@ use Rattle.mindex.proofs.loading.load_scripts.Given as goal
 -- the scripts of the names so far were read
 abbrev pub invariant-loop-name : goal.invariant-loop-name
 invariant-loop-name g l = record {
-  so_far : Front l.settings (g.F.Files.state l.fn.files) (g.F.Files.state l.files) (map string_bytes (take l.name-index l.names)) l.scripts;
+  so_far : Front l.settings l.first (g.F.Files.state l.fn.files) (g.F.Files.state l.files) (map string_bytes (take l.name-index l.names)) l.scripts;
   count : length l.scripts ≡ l.name-index;
 }

@@ -1,6 +1,6 @@
 use Rattle.std.proofs.Common.{map}
 use Rattle.std.specs.String.{string_bytes}
-use Rattle.mindex.specs.Inputs.{names_in}
+use Rattle.mindex.specs.Inputs.{replay_names_in}
 use Rattle.mindex.proofs.CallLemmas.{completes}
 use Rattle.mindex.proofs.replaying.replay_call.Goals as goal
 
@@ -9,6 +9,6 @@ returns-clause-answered g c = record { ended = c.answer_call.result; number_is =
 
 pub returns-clause-complete : goal.returns-clause-complete
 returns-clause-complete g c =
-    completes (names_in (map string_bytes c.args.words.now)) (g.F.Files.state c.args.files.now) (g.F.Files.state c.answer_call.new.files)
+    completes (replay_names_in (map string_bytes c.args.words.now)) (g.F.Files.state c.args.files.now) (g.F.Files.state c.answer_call.new.files)
     (g.S.Sink.state c.args.out.now) (g.S.Sink.state c.answer_call.new.out) c.number.result
     (record { ended = c.answer_call.result; number_is = c.number.ensures; answers = c.answer_call.ensures.answers })

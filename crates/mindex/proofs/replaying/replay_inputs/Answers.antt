@@ -1,28 +1,15 @@
-use Rattle.std.proofs.Common.{refl, inl, inr}
-use Rattle.mi_print.specs.Render.{transcript}
-use Rattle.mindex.specs.declared.statuses.Status.TheVariants as status
-use Rattle.mindex.specs.Calls.{memory_line}
-use Rattle.mindex.proofs.CallLemmas.{ends_from, runs_to}
+use Rattle.std.proofs.lemmas.Result.{IfOk-weaker}
+use Rattle.mi_replay.specs.Headlines.{Headline}
+use Rattle.mi_replay.specs.Outcomes.{Played}
+use Rattle.mindex.specs.Calls.{KeepsSchedule}
+use Rattle.mindex.specs.Loading.{scheduled_in}
+use Rattle.mindex.proofs.CallLemmas.{spoken_of}
 use Rattle.mindex.proofs.replaying.replay_inputs.Goals as goal
 
-pub returns-in-Ok : goal.returns-in-Ok
-returns-in-Ok g c =
-    let o = c.in-Ok.outcome in
-    let text = transcript o.replies o.log o.cells o.entries o.allotted o.limit in
-    record {
-      said = c.status_of.result;
-      text = text;
-      says = inl (runs_to c.args.inputs.now o c.status_of.result c.in-Ok.ensures c.status_of.ensures);
-      ends = ends_from c.status_of.result c.ended.result text (g.S.Sink.state c.args.out.now) (g.S.Sink.state c.render.new.out)
-          c.render.result c.render.ensures c.ended.ensures.ok c.ended.ensures.err;
-    }
-
-pub returns-in-Err : goal.returns-in-Err
-returns-in-Err g c =
-    record {
-      said = status.NoMemory;
-      text = memory_line;
-      says = inr (record { said_is = refl; text_is = refl });
-      ends = ends_from status.NoMemory c.ended-in-Err.result memory_line (g.S.Sink.state c.args.out.now) (g.S.Sink.state c.send_memory.new.out)
-          c.send_memory.result c.send_memory.ensures c.ended-in-Err.ensures.ok c.ended-in-Err.ensures.err;
-    }
+pub returns : goal.returns
+returns g c =
+    let inputs = scheduled_in c.args.inputs.now in
+    spoken_of inputs c.play.result (g.S.Sink.state c.args.out.now) (g.S.Sink.state c.tell.new.out) c.tell.result
+    (IfOk-weaker c.play.result (Played inputs.settings inputs.scripts c.args.inputs.now.schedule)
+    (λ o. Headline inputs.settings inputs.scripts o × KeepsSchedule inputs.settings inputs.scripts inputs.schedule o) (λ o played. (played.headline, (played.order, played.short_is))) c.play.ensures)
+    c.tell.ensures
