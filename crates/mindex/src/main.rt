@@ -1,5 +1,5 @@
-//! An exact similarity index in memory: runs scripts of updates and queries in threads, replays them
-//! after a schedule, proposes pivots, and makes workloads.
+//! An exact similarity index in memory: runs scripts of updates and queries in threads, replays
+//! them after a schedule, proposes pivots, and makes workloads.
 #![tactic(auto)]
 
 ghost use Rattle.std.specs.Prelude.{map};
