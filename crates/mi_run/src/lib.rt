@@ -1,6 +1,9 @@
-//! Scripts that are run in real threads: a worker for each, and one that splits and sweeps.
+//! Scripts that are run in threads: a worker for each, and one that splits and sweeps.
 #![tactic(auto)]
 
+mod crews;
 mod running;
+mod tending;
+mod workers;
 
 pub use running::run;

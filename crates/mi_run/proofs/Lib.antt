@@ -1,0 +1,5 @@
+pub mod NumberLemmas
+pub mod CrewLemmas
+pub mod GatherLemmas
+pub mod TendLemmas
+pub mod HeadlineLemmas
