@@ -1,6 +1,7 @@
 //! Tests of the command, from the bytes of its files to the bytes of its text.
 
 mod choices;
+mod gates;
 mod makes;
 mod nearest;
 mod queries;

@@ -6,7 +6,7 @@ use std::alloc::Global;
 use std::test::Fail;
 
 /// Lines that are written once for each number from the first to the last. In them `#` is the number, and `@` its place from 1.
-type Lines = &'static [(&'static str, u64, u64)];
+pub(super) type Lines = &'static [(&'static str, u64, u64)];
 
 /// Settings, a schedule and scripts with the whole text of their replay, whose status is 0.
 struct Case {
@@ -29,11 +29,25 @@ const ONE_PAGE: &str = "metric,l1\ndims,1\nlevels,0\ncell,4\nupdates,64\npages,1
 /// Two pivots, cells of 7, 11 and 20 objects, and one page.
 const SEVEN: &str = "metric,l1\ndims,1\npivot,0\npivot,10\nlevels,2\ncell,7\nupdates,64\npages,1\n";
 
-const ELEVEN: &str =
+pub(super) const ELEVEN: &str =
     "metric,l1\ndims,1\npivot,0\npivot,10\nlevels,2\ncell,11\nupdates,64\npages,1\n";
 
 const TWENTY: &str =
     "metric,l1\ndims,1\npivot,0\npivot,10\nlevels,2\ncell,20\nupdates,64\npages,1\n";
+
+/// Inserts that all fall into one leaf.
+pub(super) const ONE_LEAF: Lines = &[("insert,#,1\n", 1, 32)];
+
+/// The text of these inserts where the leaf was split and swept between the twelfth and the next.
+pub(super) const SWEPT_TEXT: Lines = &[
+    ("session,0\n", 1, 1),
+    ("stored,#\n", 1, 32),
+    ("history,32,1\n", 1, 1),
+    ("insert,0,#,#,1\n", 1, 12),
+    ("split,0\n", 1, 1),
+    ("insert,0,#,#,1\n", 13, 32),
+    ("cells,2\n0.1,32\n1,0\nentries,32\npages,1,1\n", 1, 1),
+];
 
 static CASES: [Case; 13] = [
     Case {
@@ -192,16 +206,8 @@ static CASES: [Case; 13] = [
         shows: "what is swept makes room on the one page",
         settings: ELEVEN,
         schedule: &[("0,op\n", 1, 12), ("splitter,op\n", 1, 2)],
-        scripts: &[&[("insert,#,1\n", 1, 32)]],
-        text: &[
-            ("session,0\n", 1, 1),
-            ("stored,#\n", 1, 32),
-            ("history,32,1\n", 1, 1),
-            ("insert,0,#,#,1\n", 1, 12),
-            ("split,0\n", 1, 1),
-            ("insert,0,#,#,1\n", 13, 32),
-            ("cells,2\n0.1,32\n1,0\nentries,32\npages,1,1\n", 1, 1),
-        ],
+        scripts: &[ONE_LEAF],
+        text: SWEPT_TEXT,
     },
     Case {
         shows: "a full page is halved under a new root",
@@ -273,7 +279,7 @@ fn line(alloc: Global, form: &str, number: u64, place: u64) -> Result<String, Fa
     Ok(text)
 }
 
-fn text_of(alloc: Global, lines: Lines) -> Result<String, Fail> {
+pub(super) fn text_of(alloc: Global, lines: Lines) -> Result<String, Fail> {
     let mut text = String::new(alloc);
     for (form, first, last) in lines {
         for number in *first..last.saturating_add(1) {
