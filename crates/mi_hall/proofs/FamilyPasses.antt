@@ -18,6 +18,7 @@ use Rattle.mi_latch.specs.declared.slots.Slot.TheVariants.{OfBoard}
 use Rattle.mi_latch.specs.Boards.{telling_same}
 use Rattle.mi_latch.specs.Ends.{adding}
 use Rattle.mi_latch.specs.Found.{FoundBoard}
+use Rattle.mi_latch.specs.Noting.{Notes}
 use Rattle.mi_latch.specs.Shows.{In, Returns, child, parting}
 use Rattle.mi_latch.specs.Takes.{Finds, see_none, took}
 use Rattle.mi_latch.specs.Views.{Doing, HoldsLast, Seated, Sight}
@@ -67,6 +68,12 @@ module _ (settings : Configuration) (old m : Seated) (b : BoardState) (a : ℕ) 
 
   pub fork_returns : HoldsLast m 0 (OfBoard b) → Returns m.0 (adding m.0 (board_out m.0.out) (telling_same m.0.mine)) 0
   fork_returns last = subst (λ x. Returns m.0 (adding m.0 x (telling_same m.0.mine)) 0) (sym out_is) (returned_more m b (telling_same m.0.mine) last)
+
+  -- it notes the board that it gives
+  pub fork_notes : (board : BoardState) → board ≡ with_more b → Notes m.0 (OfBoard board) (adding m.0 (board_out m.0.out) (telling_same m.0.mine))
+  fork_notes board more =
+      let same : with_more (board_out m.0.out) ≡ board = ap with_more out_is ∙ sym more in
+      inr (ap (λ (z : BoardState). z.log) same, same, inl (refl, refl))
 
   -- the cells of its pin are those of the log that is pinned there
   seen_cells : (q : Pin) → old.0.mine.part.pin ≡ Some q → q.cells ≡ cells_of b.settings (at_position b.log q.at)

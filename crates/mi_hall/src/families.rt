@@ -1,4 +1,5 @@
-//! What the making and the absorbing of an actor make of a seat's view. The laws' functions do nothing.
+//! What the making and the absorbing of an actor make of a seat's view. The laws' functions do
+//! nothing.
 ghost use Rattle.std.specs.Prelude.{List, [], true, ℕ, ◌<◌, ◌≡◌};
 ghost use Rattle.mi_base.specs.Prefixes.{has};
 ghost use Rattle.mi_core.specs.Events.{Can, after};

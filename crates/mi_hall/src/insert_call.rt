@@ -12,7 +12,7 @@ ghost use Rattle.mi_world.specs.Pages.{CommitsInsert, MayInsert, MaySeek};
 ghost use Rattle.mi_hall.specs.CommitRows.{EntersRow, InsertsRow, MayEnter, giving_beside, key_in_row, next_birth};
 ghost use Rattle.mi_hall.specs.Seats.{seat_view};
 
-use crate::page_calls::give_page;
+use crate::page_calls::{CAPACITY, give_page};
 use crate::passes::Pass;
 use mi_base::{Dists, Id, Position, Settings, Vector};
 use mi_board::Board;
@@ -28,9 +28,6 @@ use mi_solo::shards::copy_dists;
 use mi_world::Commit;
 use std::marker::Brand;
 use std::sync::Wait;
-
-/// How many entries a page may have.
-const CAPACITY: usize = 32;
 
 impl Pass {
     /// Enters the insert into the log and its entry into the page, once page and board are free.
@@ -69,7 +66,7 @@ impl Pass {
             self.actor, page, op, id, vector, dists, &mut board, &mut node, rows, row,
         );
         let at = &mut self.at;
-        give_beside::<Brand>(
+        give_beside_page::<Brand>(
             latches,
             &mut self.seat,
             row,
@@ -203,7 +200,7 @@ fn new_entry(key: Key, vector: &Vector, dists: &Dists, birth: u32) -> Entry
 
 /// Puts the board back, which is the event that leads to this row. The page and the rows of the
 /// shard are still in hand, as they are after it.
-fn give_beside<E: Aim>(
+fn give_beside_page<E: Aim>(
     latches: &LatchTable,
     seat: &mut Seat,
     row: &ActorRow,

@@ -1,4 +1,5 @@
-//! Places at the table of latched values: what a seat knows, its view, and what each section makes of that.
+//! Places at the table of latched values: what a seat knows, its view, and what each section makes
+//! of that.
 #![tactic(auto)]
 
 mod absorbed;

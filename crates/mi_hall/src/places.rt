@@ -29,7 +29,8 @@ impl Model for Hall {
 }
 
 impl Hall {
-    /// A hall for these settings, with page 0 alone and an empty log, and the pass of its first actor.
+    /// A hall for these settings, with page 0 alone and an empty log, and the pass of its first
+    /// actor.
     pub fn open(alloc: Global, settings: &Settings) -> Result<(Hall, Pass), NoMemory>
         requires metric { IsMetric (metric_space settings.now) }
         ensures hall { IfOk result (λ t. t.1.table ≡ t.0) }

@@ -81,7 +81,7 @@ impl Pass {
         let mut board = latches.take_board(rt, &mut self.seat, self.actor);
         let result = reserve_row(self.actor, &mut board, rows, &mut self.row);
         self.at = board.look().at;
-        give_beside::<Brand>(latches, &mut self.seat, &self.row, self.told, board, rows);
+        give_beside_rows::<Brand>(latches, &mut self.seat, &self.row, self.told, board, rows);
         result
     }
 }
@@ -124,7 +124,7 @@ fn reserve_row(
 
 /// Puts the board back, which is the event that leads to this row and to these rows of the shard
 /// in hand.
-fn give_beside<E: Aim>(
+fn give_beside_rows<E: Aim>(
     latches: &LatchTable,
     seat: &mut Seat,
     row: &ActorRow,

@@ -8,6 +8,7 @@ pub mod PageSteps
 pub mod Boths
 pub mod Ends
 pub mod Naming
+pub mod Noting
 pub mod Decided
 pub mod Found
 pub mod Learning

@@ -26,7 +26,8 @@ const BEFORE: usize = 17;
 const SHARDS: usize = 16;
 
 impl LatchTable {
-    /// A table for these settings, with page 0 alone and an empty log, and the seat of its first actor.
+    /// A table for these settings, with page 0 alone and an empty log, and the seat of its first
+    /// actor.
     pub fn open(alloc: Global, settings: &Settings) -> Result<(LatchTable, Seat), NoMemory>
         requires metric { IsMetric (metric_space settings.now) }
         ensures table { IfOk result (λ t. (t.1.table_id ≡ t.0.table.shared.table_id) × (t.0.table.shared.key ≡ settings.now)) }
@@ -64,7 +65,8 @@ impl LatchTable {
         self.table.shared.join_seat::<Joining>(seat, other);
     }
 
-    /// Takes all values out, in the order of the slots, where the seat stands for every actor and has nothing out. It takes no memory.
+    /// Takes all values out, in the order of the slots, where the seat stands for every actor and
+    /// has nothing out. It takes no memory.
     pub fn close(self, seat: Seat, values: Vec<Slot>) -> Vec<Slot>
         requires table { seat.table_id ≡ self.table.shared.table_id }
         requires room { (values.items ≡ []) × (self.table.shared.key.pages + 17 ≤ vec_capacity values) }
@@ -80,7 +82,8 @@ impl LatchTable {
     }
 }
 
-/// All values of a table that no thread shares any more, in the order of its slots. It takes no memory.
+/// All values of a table that no thread shares any more, in the order of its slots. It takes no
+/// memory.
 fn take_all(closed: Closed<Slot, Global>, values: Vec<Slot>) -> Vec<Slot>
     requires full { IsFull closed.slots }
     requires room { (values.items ≡ []) × (slots_len closed.slots ≤ vec_capacity values) }

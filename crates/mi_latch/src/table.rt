@@ -2,6 +2,7 @@
 ghost use Rattle.std.specs.Prelude.{◌≡◌, ◌≢◌, ◌<◌, ◌+◌, ℕ, [], ◌∷◌, true, None, MatchOption, MatchResult};
 ghost use Rattle.atomic_table.specs.Table.{rest};
 ghost use Rattle.mi_page.specs.Nodes.{Node};
+ghost use Rattle.mi_latch.specs.Noting.{Notes};
 ghost use Rattle.mi_latch.specs.Shows.{Returns, with_mine};
 ghost use Rattle.mi_latch.specs.Takes.{Finds, IsBoard, IsPage, IsPlain, IsShard, noting_holder, see_none, see_shard, took};
 ghost use Rattle.mi_latch.specs.Views.{Doing, HoldsLast, IsOne, now};
@@ -23,7 +24,8 @@ use std::thread;
 /// A seat at the table.
 pub type Seat = atomic_table::Seat<Slot, View>;
 
-/// The table of latched values. Slot 0 has the board, slot k + 1 the shard k, slot p + 17 the page p.
+/// The table of latched values. Slot 0 has the board, slot k + 1 the shard k, slot p + 17 the page
+/// p.
 #[derive(Drop)]
 pub struct LatchTable {
     pub table: Table<Slot, View, Settings, Latches, Global>,
@@ -97,7 +99,8 @@ impl LatchTable {
         page_of(self.take_slot::<Brand, R>(rt, seat, page as usize + 17, actor))
     }
 
-    /// Waits for the slot of any page, and takes what lies there out: nothing, where the page isn't linked.
+    /// Waits for the slot of any page, and takes what lies there out: nothing, where the page isn't
+    /// linked.
     pub fn take_fresh<R: Wait>(&self, rt: &R, seat: &mut Seat, page: u32, actor: u32) -> Slot
         requires table { (seat.old.table_id ≡ self.now.table.shared.table_id) × (page < self.now.table.shared.key.pages) }
         requires seat { (seat.old.me.0.live ≡ true) × (seat.old.me.0.actor ≡ actor) }
@@ -156,6 +159,8 @@ impl LatchTable {
         requires held { seat.old.me.1 ≡ (slot, Slot.Vacant) ∷ rest seat.old.me.1 }
         requires returns { Returns seat.old.me.0 E.next slot }
         requires does { Doing self.now.table.shared.key seat.old.me.0 E.next slot value }
+        // Of what it notes nothing is made up.
+        requires notes { Notes seat.old.me.0 value E.next }
         ensures table { (seat.new.table_id ≡ seat.old.table_id) × (seat.new.id ≡ seat.old.id) }
         ensures gave { seat.new.me ≡ (E.next, rest seat.old.me.1) }
     {

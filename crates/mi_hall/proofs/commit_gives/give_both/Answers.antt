@@ -1,4 +1,4 @@
-use Rattle.std.proofs.Common.{◌≡◌, ◌∙◌, ◌+◌, ap, arith, refl, subst, sym, ⊎_elim}
+use Rattle.std.proofs.Common.{◌≡◌, ◌∙◌, ◌+◌, ap, arith, inl, inr, refl, subst, sym, ⊎_elim}
 use Rattle.atomic_table.specs.Table.{rest}
 use Rattle.mi_entries.specs.Records.{home}
 use Rattle.mi_latch.specs.declared.slots.Slot.TheVariants.{OfPage}
@@ -15,6 +15,9 @@ give-requires-clause-returns g c = let h = c.requires.held in rw c.requires.aim 
 
 pub give-requires-clause-does : goal.give-requires-clause-does
 give-requires-clause-does g c = rw c.requires.aim c.requires.does
+
+pub give-requires-clause-notes : goal.give-requires-clause-notes
+give-requires-clause-notes g c = rw c.requires.aim (inr (refl, refl, inr (_, _, inl (refl, refl), refl, refl)))
 
 pub give_page_back-requires-clause-last : goal.give_page_back-requires-clause-last
 give_page_back-requires-clause-last g c =

@@ -1,3 +1,4 @@
+use Rattle.std.proofs.Common.{inr, refl}
 use Rattle.mi_hall.proofs.page_calls.give_lower.Goals as goal
 
 pub give-requires-clause-returns : goal.give-requires-clause-returns
@@ -5,3 +6,6 @@ give-requires-clause-returns g c = rw c.requires.aim c.requires.returns
 
 pub give-requires-clause-does : goal.give-requires-clause-does
 give-requires-clause-does g c = rw c.requires.aim c.requires.does
+
+pub give-requires-clause-notes : goal.give-requires-clause-notes
+give-requires-clause-notes g c = rw c.requires.aim (inr (refl, refl))

@@ -120,8 +120,8 @@ insert_row-answer-requires g c =
     let near : c.get.result % 16 ≡ home c.args.id = ap home c.get.ensures.same in
     subst (λ i. MayEnter i c.args.page c.args.id c.args.vector.now c.args.dists.now.items b had c.in-Some.rows c.self.inside.row) p.actor_is (may_hand c.args.latches.now.table.shared.key start c.args.page had b c.self.inside.actor c.self.inside.row c.in-Some.rows c.self.inside.told c.args.id p may.shard t.finds t.apart c.args.vector.now c.args.dists.now.items may seeks small leaf)
 
-pub give_beside-requires-clause-returns : goal.give_beside-requires-clause-returns
-give_beside-requires-clause-returns g c =
+pub give_beside_page-requires-clause-returns : goal.give_beside_page-requires-clause-returns
+give_beside_page-requires-clause-returns g c =
     let start = c.self.inside.seat.me in
     let e = c.take_page-node.ensures in
     let d = c.take_board-board.ensures in
@@ -137,8 +137,8 @@ give_beside-requires-clause-returns g c =
     subst (λ k. Returns c.take_board-board.new.seat.me.0 (giving_beside c.take_board-board.new.seat.me.0 c.insert_row-answer.new.row c.insert_row-answer.new.board c.args.page c.insert_row-answer.new.node k c.insert_row-answer.new.rows) 0) (sym near)
     (beside_returns c.args.latches.now.table.shared.key start c.args.page had b c.self.inside.actor c.self.inside.row c.in-Some.rows c.self.inside.told (home c.args.id) p may.shard t.finds t.apart c.insert_row-answer.new.board c.insert_row-answer.new.node c.insert_row-answer.new.rows c.insert_row-answer.new.row c.take_board-board.new.seat.me t.is d.last)
 
-pub give_beside-requires-clause-does : goal.give_beside-requires-clause-does
-give_beside-requires-clause-does g c =
+pub give_beside_page-requires-clause-does : goal.give_beside_page-requires-clause-does
+give_beside_page-requires-clause-does g c =
     let start = c.self.inside.seat.me in
     let e = c.take_page-node.ensures in
     let d = c.take_board-board.ensures in
@@ -159,7 +159,7 @@ give_beside-requires-clause-does g c =
 pub give_page-requires-2-clause-table : goal.give_page-requires-2-clause-table
 give_page-requires-2-clause-table g c =
     let x = named_before c.self.inside.seat.me c.self.inside.seat.table_id c.args.latches.now.table.shared.table_id c.args.self.now _ c.args.latches.now.words c.self.invariant.1 c.self.view_is c.requires.table _ c.requires.seeks.named in
-    (c.give_beside.ensures.table.0 ∙ c.take_board-board.ensures.table.0 ∙ c.take_page-node.ensures.table.0 ∙ x.0, x.1)
+    (c.give_beside_page.ensures.table.0 ∙ c.take_board-board.ensures.table.0 ∙ c.take_page-node.ensures.table.0 ∙ x.0, x.1)
 
 pub give_page-requires-2-clause-last : goal.give_page-requires-2-clause-last
 give_page-requires-2-clause-last g c =
@@ -175,8 +175,8 @@ give_page-requires-2-clause-last g c =
     let leaf : had.level ≡ 0 = omega (arith, c.level.ensures, c.if-level-gt0.false) in
     let small : c.args.id < 2 ^ 40 = omega (arith, c.get.ensures.small, c.get.ensures.same) in
     let near : c.get.result % 16 ≡ home c.args.id = ap home c.get.ensures.same in
-    let gave = c.give_beside.ensures.gave ∙ ap (λ k. let y : Seated = (giving_beside c.take_board-board.new.seat.me.0 c.insert_row-answer.new.row c.insert_row-answer.new.board c.args.page c.insert_row-answer.new.node k c.insert_row-answer.new.rows, rest c.take_board-board.new.seat.me.1) in y) near in
-    (c.insert_row-answer.new.node, page_last c.args.latches.now.table.shared.key start c.args.page had b c.self.inside.actor c.self.inside.row c.in-Some.rows c.self.inside.told (home c.args.id) p may.shard t.finds t.apart c.insert_row-answer.new.board c.insert_row-answer.new.node c.insert_row-answer.new.rows c.insert_row-answer.new.row c.take_board-board.new.seat.me c.give_beside.new.seat.me t.is gave)
+    let gave = c.give_beside_page.ensures.gave ∙ ap (λ k. let y : Seated = (giving_beside c.take_board-board.new.seat.me.0 c.insert_row-answer.new.row c.insert_row-answer.new.board c.args.page c.insert_row-answer.new.node k c.insert_row-answer.new.rows, rest c.take_board-board.new.seat.me.1) in y) near in
+    (c.insert_row-answer.new.node, page_last c.args.latches.now.table.shared.key start c.args.page had b c.self.inside.actor c.self.inside.row c.in-Some.rows c.self.inside.told (home c.args.id) p may.shard t.finds t.apart c.insert_row-answer.new.board c.insert_row-answer.new.node c.insert_row-answer.new.rows c.insert_row-answer.new.row c.take_board-board.new.seat.me c.give_beside_page.new.seat.me t.is gave)
 
 pub give_page-requires-2-clause-does : goal.give_page-requires-2-clause-does
 give_page-requires-2-clause-does g c =
@@ -194,8 +194,8 @@ give_page-requires-2-clause-does g c =
     let near : c.get.result % 16 ≡ home c.args.id = ap home c.get.ensures.same in
     let made = subst (λ i. InsertsRow i c.args.page c.args.op c.args.id (key_in_row b.settings c.self.inside.row c.args.dists.now.items c.args.id (next_birth b)) c.args.vector.now c.args.dists.now.items b had c.in-Some.rows c.self.inside.row c.insert_row-answer.result c.insert_row-answer.new.board c.insert_row-answer.new.node c.insert_row-answer.new.rows c.insert_row-answer.new.row) (sym p.actor_is) c.insert_row-answer.ensures in
     let keeps = inserts_keep c.args.latches.now.table.shared.key start c.args.page had b c.self.inside.actor c.self.inside.row c.in-Some.rows c.self.inside.told c.args.id p may.shard t.finds t.apart c.args.vector.now c.args.dists.now.items may seeks c.insert_row-answer.new.board c.insert_row-answer.new.node c.insert_row-answer.new.rows c.insert_row-answer.new.row c.args.op leaf small c.insert_row-answer.result made in
-    let gave = c.give_beside.ensures.gave ∙ ap (λ k. let y : Seated = (giving_beside c.take_board-board.new.seat.me.0 c.insert_row-answer.new.row c.insert_row-answer.new.board c.args.page c.insert_row-answer.new.node k c.insert_row-answer.new.rows, rest c.take_board-board.new.seat.me.1) in y) near in
-    page_goes c.args.latches.now.table.shared.key start c.args.page had b c.self.inside.actor c.self.inside.row c.in-Some.rows c.self.inside.told (home c.args.id) p may.shard t.finds t.apart c.insert_row-answer.new.board c.insert_row-answer.new.node c.insert_row-answer.new.rows c.insert_row-answer.new.row keeps c.take_board-board.new.seat.me c.give_beside.new.seat.me t.is gave
+    let gave = c.give_beside_page.ensures.gave ∙ ap (λ k. let y : Seated = (giving_beside c.take_board-board.new.seat.me.0 c.insert_row-answer.new.row c.insert_row-answer.new.board c.args.page c.insert_row-answer.new.node k c.insert_row-answer.new.rows, rest c.take_board-board.new.seat.me.1) in y) near in
+    page_goes c.args.latches.now.table.shared.key start c.args.page had b c.self.inside.actor c.self.inside.row c.in-Some.rows c.self.inside.told (home c.args.id) p may.shard t.finds t.apart c.insert_row-answer.new.board c.insert_row-answer.new.node c.insert_row-answer.new.rows c.insert_row-answer.new.row keeps c.take_board-board.new.seat.me c.give_beside_page.new.seat.me t.is gave
 
 pub invariant_of-self-2 : goal.invariant_of-self-2
 invariant_of-self-2 g c =
@@ -213,17 +213,17 @@ invariant_of-self-2 g c =
     let near : c.get.result % 16 ≡ home c.args.id = ap home c.get.ensures.same in
     let made = subst (λ i. InsertsRow i c.args.page c.args.op c.args.id (key_in_row b.settings c.self.inside.row c.args.dists.now.items c.args.id (next_birth b)) c.args.vector.now c.args.dists.now.items b had c.in-Some.rows c.self.inside.row c.insert_row-answer.result c.insert_row-answer.new.board c.insert_row-answer.new.node c.insert_row-answer.new.rows c.insert_row-answer.new.row) (sym p.actor_is) c.insert_row-answer.ensures in
     let keeps = inserts_keep c.args.latches.now.table.shared.key start c.args.page had b c.self.inside.actor c.self.inside.row c.in-Some.rows c.self.inside.told c.args.id p may.shard t.finds t.apart c.args.vector.now c.args.dists.now.items may seeks c.insert_row-answer.new.board c.insert_row-answer.new.node c.insert_row-answer.new.rows c.insert_row-answer.new.row c.args.op leaf small c.insert_row-answer.result made in
-    let gave = c.give_beside.ensures.gave ∙ ap (λ k. let y : Seated = (giving_beside c.take_board-board.new.seat.me.0 c.insert_row-answer.new.row c.insert_row-answer.new.board c.args.page c.insert_row-answer.new.node k c.insert_row-answer.new.rows, rest c.take_board-board.new.seat.me.1) in y) near in
-    let ended = both_end c.args.latches.now.table.shared.key start c.args.page had b c.self.inside.actor c.self.inside.row c.in-Some.rows c.self.inside.told (home c.args.id) p may.shard t.finds t.apart c.insert_row-answer.new.board c.insert_row-answer.new.node c.insert_row-answer.new.rows c.insert_row-answer.new.row c.take_board-board.new.seat.me c.give_beside.new.seat.me c.give_page-2.new.seat.me t.is gave c.give_page-2.ensures.gave in
+    let gave = c.give_beside_page.ensures.gave ∙ ap (λ k. let y : Seated = (giving_beside c.take_board-board.new.seat.me.0 c.insert_row-answer.new.row c.insert_row-answer.new.board c.args.page c.insert_row-answer.new.node k c.insert_row-answer.new.rows, rest c.take_board-board.new.seat.me.1) in y) near in
+    let ended = both_end c.args.latches.now.table.shared.key start c.args.page had b c.self.inside.actor c.self.inside.row c.in-Some.rows c.self.inside.told (home c.args.id) p may.shard t.finds t.apart c.insert_row-answer.new.board c.insert_row-answer.new.node c.insert_row-answer.new.rows c.insert_row-answer.new.row c.take_board-board.new.seat.me c.give_beside_page.new.seat.me c.give_page-2.new.seat.me t.is gave c.give_page-2.ensures.gave in
     let x = named_before c.self.inside.seat.me c.self.inside.seat.table_id c.args.latches.now.table.shared.table_id c.args.self.now _ c.args.latches.now.words c.self.invariant.1 c.self.view_is c.requires.table _ c.requires.seeks.named in
-    let table = c.give_page-2.ensures.table.0 ∙ c.give_beside.ensures.table.0 ∙ d.table.0 ∙ e.table.0 in
+    let table = c.give_page-2.ensures.table.0 ∙ c.give_beside_page.ensures.table.0 ∙ d.table.0 ∙ e.table.0 in
     let event = inserts_leave c.args.latches.now.table.shared.key start c.args.page had b c.self.inside.actor c.self.inside.row c.in-Some.rows c.self.inside.told c.args.id p may.shard t.finds t.apart c.args.vector.now c.args.dists.now.items may seeks c.insert_row-answer.new.board c.insert_row-answer.new.node c.insert_row-answer.new.rows c.insert_row-answer.new.row c.args.op leaf small c.insert_row-answer.result made in (
       ended_pass c.args.latches.now.table.shared.key start c.args.page had b c.self.inside.actor c.self.inside.row c.in-Some.rows c.self.inside.told (home c.args.id) p may.shard t.finds t.apart c.insert_row-answer.new.board c.insert_row-answer.new.node c.insert_row-answer.new.rows c.insert_row-answer.new.row keeps c.give_page-2.new.seat.me ended,
       subst (λ (z : TableId). AreNear z.words c.give_page-2.new.seat.me.0.mine.named) (sym table) (ended_near c.args.latches.now.table.shared.key start c.args.page had b c.self.inside.actor c.self.inside.row c.in-Some.rows c.self.inside.told (home c.args.id) p may.shard t.finds t.apart c.insert_row-answer.new.board c.insert_row-answer.new.node c.insert_row-answer.new.rows c.insert_row-answer.new.row keeps c.give_page-2.new.seat.me ended _ (ap (λ (z : TableId). z.words) x.0 ∙ c.args.latches.now.words) c.self.invariant.1),
       ended_cells c.args.latches.now.table.shared.key start c.args.page had b c.self.inside.actor c.self.inside.row c.in-Some.rows c.self.inside.told (home c.args.id) p may.shard t.finds t.apart c.insert_row-answer.new.board c.insert_row-answer.new.node c.insert_row-answer.new.rows c.insert_row-answer.new.row event.0 event.1 c.give_page-2.new.seat.me ended,
       word_stays _ _ _ _ table keeps.fresh_is c.self.invariant.3,
-      given_at _ _ _ ended c.give_beside.ensures.at,
-      kept_gone _ _ _ c.give_page-2.ensures.gave (kept_gone _ _ _ c.give_beside.ensures.gave (kept_gone _ _ _ d.took (kept_gone _ _ _ e.took c.self.invariant.5))),
+      given_at _ _ _ ended c.give_beside_page.ensures.at,
+      kept_gone _ _ _ c.give_page-2.ensures.gave (kept_gone _ _ _ c.give_beside_page.ensures.gave (kept_gone _ _ _ d.took (kept_gone _ _ _ e.took c.self.invariant.5))),
     )
 
 pub returns-clause-told : goal.returns-clause-told
@@ -242,7 +242,7 @@ returns-clause-told g c =
     let near : c.get.result % 16 ≡ home c.args.id = ap home c.get.ensures.same in
     let made = subst (λ i. InsertsRow i c.args.page c.args.op c.args.id (key_in_row b.settings c.self.inside.row c.args.dists.now.items c.args.id (next_birth b)) c.args.vector.now c.args.dists.now.items b had c.in-Some.rows c.self.inside.row c.insert_row-answer.result c.insert_row-answer.new.board c.insert_row-answer.new.node c.insert_row-answer.new.rows c.insert_row-answer.new.row) (sym p.actor_is) c.insert_row-answer.ensures in
     let keeps = inserts_keep c.args.latches.now.table.shared.key start c.args.page had b c.self.inside.actor c.self.inside.row c.in-Some.rows c.self.inside.told c.args.id p may.shard t.finds t.apart c.args.vector.now c.args.dists.now.items may seeks c.insert_row-answer.new.board c.insert_row-answer.new.node c.insert_row-answer.new.rows c.insert_row-answer.new.row c.args.op leaf small c.insert_row-answer.result made in
-    let gave = c.give_beside.ensures.gave ∙ ap (λ k. let y : Seated = (giving_beside c.take_board-board.new.seat.me.0 c.insert_row-answer.new.row c.insert_row-answer.new.board c.args.page c.insert_row-answer.new.node k c.insert_row-answer.new.rows, rest c.take_board-board.new.seat.me.1) in y) near in
-    let ended = both_end c.args.latches.now.table.shared.key start c.args.page had b c.self.inside.actor c.self.inside.row c.in-Some.rows c.self.inside.told (home c.args.id) p may.shard t.finds t.apart c.insert_row-answer.new.board c.insert_row-answer.new.node c.insert_row-answer.new.rows c.insert_row-answer.new.row c.take_board-board.new.seat.me c.give_beside.new.seat.me c.give_page-2.new.seat.me t.is gave c.give_page-2.ensures.gave in
+    let gave = c.give_beside_page.ensures.gave ∙ ap (λ k. let y : Seated = (giving_beside c.take_board-board.new.seat.me.0 c.insert_row-answer.new.row c.insert_row-answer.new.board c.args.page c.insert_row-answer.new.node k c.insert_row-answer.new.rows, rest c.take_board-board.new.seat.me.1) in y) near in
+    let ended = both_end c.args.latches.now.table.shared.key start c.args.page had b c.self.inside.actor c.self.inside.row c.in-Some.rows c.self.inside.told (home c.args.id) p may.shard t.finds t.apart c.insert_row-answer.new.board c.insert_row-answer.new.node c.insert_row-answer.new.rows c.insert_row-answer.new.row c.take_board-board.new.seat.me c.give_beside_page.new.seat.me c.give_page-2.new.seat.me t.is gave c.give_page-2.ensures.gave in
     told_of (λ v w. CommitsInsert v w c.args.page c.args.op c.args.id c.args.vector.now c.args.dists.now.items c.insert_row-answer.result) c.self.inside.seat.me.0 c.give_page-2.new.seat.me.0 _ _ c.self.view_is
     (inserts_told c.args.latches.now.table.shared.key start c.args.page had b c.self.inside.actor c.self.inside.row c.in-Some.rows c.self.inside.told c.args.id p may.shard t.finds t.apart c.args.vector.now c.args.dists.now.items may seeks c.insert_row-answer.new.board c.insert_row-answer.new.node c.insert_row-answer.new.rows c.insert_row-answer.new.row c.args.op leaf small c.give_page-2.new.seat.me ended c.insert_row-answer.result made)

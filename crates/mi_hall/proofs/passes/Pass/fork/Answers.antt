@@ -1,4 +1,4 @@
-use Rattle.std.proofs.Common.{ap, subst, sym, ◌∙◌, ◌<◌, ℕ, length}
+use Rattle.std.proofs.Common.{◌∙◌, ◌<◌, ap, length, subst, sym, ℕ}
 use Rattle.atomic_table.specs.Seated.{TableId}
 use Rattle.atomic_table.specs.Table.{rest}
 use Rattle.mi_base.specs.History.{end_of}
@@ -12,7 +12,7 @@ use Rattle.mi_hall.specs.Passes.{AreNear, giving}
 use Rattle.mi_hall.specs.Seats.{seat_view}
 use Rattle.mi_hall.proofs.AbsorbedLemmas.{kept_gone}
 use Rattle.mi_hall.proofs.DepartCall.{not_fork_told, see_cells, see_does}
-use Rattle.mi_hall.proofs.FamilyPasses.{child_at, child_cells, child_near, child_pass, fork_does, fork_returns, fork_told, made_word, maker_at, maker_cells, maker_near, maker_pass, child_gone, maker_gone}
+use Rattle.mi_hall.proofs.FamilyPasses.{child_at, child_cells, child_gone, child_near, child_pass, fork_does, fork_notes, fork_returns, fork_told, made_word, maker_at, maker_cells, maker_gone, maker_near, maker_pass}
 use Rattle.mi_hall.proofs.NamedPages.{board_near}
 use Rattle.mi_hall.proofs.PassLemmas.{given_at, given_pass, pass_rows, told_of, word_stays}
 use Rattle.mi_hall.proofs.passes.Pass.fork.Goals as goal
@@ -60,6 +60,10 @@ give-requires-clause-returns g c = let e = c.take_board-board.ensures in fork_re
 pub give-requires-clause-does : goal.give-requires-clause-does
 give-requires-clause-does g c = let e = c.take_board-board.ensures in let n = c.in-Ok.ensures in
     fork_does _ _ _ _ _ _ _ _ c.self.invariant.0 e.took e.told e.last (subst (λ (k : ℕ). k < 4294967295) n.1.0 n.0) _ n.1.1
+
+pub give-requires-clause-notes : goal.give-requires-clause-notes
+give-requires-clause-notes g c = let e = c.take_board-board.ensures in
+    fork_notes _ _ _ _ _ _ _ _ c.self.invariant.0 e.took e.told _ c.in-Ok.ensures.1.1
 
 pub split_seat-seat-requires-clause-born : goal.split_seat-seat-requires-clause-born
 split_seat-seat-requires-clause-born g c = (ap (λ (z : Seated). z.0.live) c.give.ensures.gave, (_, _, ap (λ (z : Seated). z.0.born) c.give.ensures.gave))

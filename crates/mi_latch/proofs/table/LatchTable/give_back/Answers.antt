@@ -1,3 +1,4 @@
+use Rattle.std.proofs.Common.{inl, refl}
 use Rattle.mi_latch.proofs.Takes.{back_does, returned_rest}
 use Rattle.mi_latch.proofs.table.LatchTable.give_back.Goals as goal
 
@@ -6,3 +7,6 @@ give-requires-clause-returns g c = let m = c.args.seat.now.me in rw c.requires.a
 
 pub give-requires-clause-does : goal.give-requires-clause-does
 give-requires-clause-does g c = let m = c.args.seat.now.me in rw c.requires.aim (back_does _ _ m _ c.requires.last c.requires.plain)
+
+pub give-requires-clause-notes : goal.give-requires-clause-notes
+give-requires-clause-notes g c = rw c.requires.aim (inl refl)
