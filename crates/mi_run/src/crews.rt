@@ -10,8 +10,8 @@ use mi_world::{Forks, World};
 use std::alloc::Global;
 use std::sync::Wait;
 
-/// What is left when all workers have ended: the pass of the first actor, into which all others were
-/// absorbed, the replies to each script, and whether memory was wanted for a page or a split.
+/// What is left when all workers have ended: the pass of the first actor, into which all others
+/// were absorbed, the replies to each script, and whether memory was wanted for a page or a split.
 #[derive(Drop)]
 pub struct Left {
     pub pass: Pass,
@@ -47,16 +47,19 @@ pub fn seat<'h, 's, R: Wait>(
     Ok(workers)
 }
 
-/// Absorbs all workers into the first, in their order.
+/// Absorbs all workers into the first, in their order, and puts their replies into the list that was
+/// made for them.
 pub fn gather<'h, 's, R: Wait>(
-    alloc: Global,
     scripts: &[Script],
     workers: Vec<Worker<'h, 's, R>>,
+    replies: Transcript,
 ) -> Result<Left, NoMemory>
-    requires { IsDone scripts.now workers.items }
+    requires done { IsDone scripts.now workers.items }
+    requires none { replies ≡ [] }
     ensures { IfOk result (λ left. IsGathered (first_place workers.entry.items) scripts.now left.pass left.replies) }
 {
-    let mut replies = Transcript::with_room(alloc, scripts.len())?;
+    let _scripts = scripts;
+    let mut replies = replies;
     let mut clients = workers;
     let (tender, wanted) = tended(clients.pop().unwrap());
     let mut place = leave(clients.remove(0), &mut replies)?;

@@ -12,7 +12,7 @@ ghost use Rattle.mi_run.specs.Workers.{HasWorked, MayWork};
 
 use crate::crews::{Left, gather, seat};
 use crate::workers::Worker;
-use mi_base::{NoMemory, Script, Settings};
+use mi_base::{NoMemory, Script, Settings, Transcript};
 use mi_hall::{Hall, Pass};
 use mi_metric::Metric;
 use mi_outside::Gate;
@@ -71,8 +71,10 @@ fn in_hall<R: Threads + Wait + Sync, M: Metric + Sync, G: Gate>(
     ensures { IfOk result (λ left. IsGathered (Some pass) scripts.now left.pass left.replies) }
 {
     let mut workers = seat(alloc, hall.place(rt, pass), scripts)?;
+    // Here, so that memory is wanted before the work and not behind it.
+    let replies = Transcript::with_room(alloc, scripts.len())?;
     work_all(rt, alloc, &mut workers, metric, pivots, gate);
-    gather(alloc, scripts, workers)
+    gather(scripts, workers, replies)
 }
 
 /// Lets each worker work in a thread of its own.

@@ -48,8 +48,8 @@ fn is_last<'h, R: Wait>(place: &mut Place<'h, R>, begins: bool, last: bool) -> b
     }
 }
 
-/// Passes the gate after a section, and gives the number of the operation that it was of. They count
-/// from 1.
+/// Passes the gate after a section, and gives the number of the operation that it was of. They
+/// count from 1.
 fn tell<G: Gate>(gate: &G, actor: u32, turn: CareTurn, begins: bool, number: u32) -> u32 {
     match turn {
         CareTurn::Idle => number,

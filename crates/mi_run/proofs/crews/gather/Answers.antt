@@ -8,29 +8,29 @@ use Rattle.mi_run.proofs.crews.gather.Goals as goal
 pub tended-tender-requires : goal.tended-tender-requires
 tended-tender-requires g c =
     let e = c.pop.ensures.items ∙ ap (λ r. c.pop.new.self.items ++ option_to_list r) c.unwrap.ensures in
-    is_tender c.args.scripts.now c.args.workers.items c.pop.new.self.items c.unwrap.result c.requires e
+    is_tender c.args.scripts.now c.args.workers.items c.pop.new.self.items c.unwrap.result c.requires.done e
 
 pub remove-requires : goal.remove-requires
 remove-requires g c =
     let e = c.pop.ensures.items ∙ ap (λ r. c.pop.new.self.items ++ option_to_list r) c.unwrap.ensures in
-    omega (arith, front_is c.args.scripts.now c.args.workers.items c.pop.new.self.items c.unwrap.result c.requires e, c.pop.new.self.ok.0)
+    omega (arith, front_is c.args.scripts.now c.args.workers.items c.pop.new.self.items c.unwrap.result c.requires.done e, c.pop.new.self.ok.0)
 
 pub leave-requires : goal.leave-requires
 leave-requires g c =
     let e = c.pop.ensures.items ∙ ap (λ r. c.pop.new.self.items ++ option_to_list r) c.unwrap.ensures in
-    let some : 0 < length c.pop.new.self.items = front_is c.args.scripts.now c.args.workers.items c.pop.new.self.items c.unwrap.result c.requires e in
+    let some : 0 < length c.pop.new.self.items = front_is c.args.scripts.now c.args.workers.items c.pop.new.self.items c.unwrap.result c.requires.done e in
     let f = cons_of c.pop.new.self.items c.remove.new.self.items c.remove.result some c.remove.ensures.value c.remove.ensures.by_index.2 in
-    first_is c.args.scripts.now c.args.workers.items c.pop.new.self.items c.unwrap.result c.remove.result c.remove.new.self.items c.requires e f
+    first_is c.args.scripts.now c.args.workers.items c.pop.new.self.items c.unwrap.result c.remove.result c.remove.new.self.items c.requires.done e f
 
 pub loop-place-init : goal.loop-place-init
 loop-place-init g c =
     let e = c.pop.ensures.items ∙ ap (λ r. c.pop.new.self.items ++ option_to_list r) c.unwrap.ensures in
-    let some : 0 < length c.pop.new.self.items = front_is c.args.scripts.now c.args.workers.items c.pop.new.self.items c.unwrap.result c.requires e in
+    let some : 0 < length c.pop.new.self.items = front_is c.args.scripts.now c.args.workers.items c.pop.new.self.items c.unwrap.result c.requires.done e in
     let f = cons_of c.pop.new.self.items c.remove.new.self.items c.remove.result some c.remove.ensures.value c.remove.ensures.by_index.2 in
     let p = c.in_ok-place.place in
-    let replies = c.in_ok-place.ensures.1 ∙ ap (λ ys. ys ++ replied c.remove.result.task ∷ []) c.in_ok-replies.ensures in
+    let replies = c.in_ok-place.ensures.1 ∙ ap (λ ys. ys ++ replied c.remove.result.task ∷ []) c.requires.none in
     subst (Absorbing c.args.scripts.now c.args.workers.items c.remove.new.self.items p) (sym replies)
-    (absorbing_first c.args.scripts.now c.args.workers.items c.pop.new.self.items c.unwrap.result c.remove.result c.remove.new.self.items p c.requires e f c.in_ok-place.ensures.0)
+    (absorbing_first c.args.scripts.now c.args.workers.items c.pop.new.self.items c.unwrap.result c.remove.result c.remove.new.self.items p c.requires.done e f c.in_ok-place.ensures.0)
 
 pub leave-requires-in-loop-place : goal.leave-requires-in-loop-place
 leave-requires-in-loop-place g c =

@@ -30,8 +30,11 @@ work_all-requires-clause-may g c =
     λ κs outlives. subst (AllByRecursion (MayWork (g.M.Metric.space c.args.metric.now) c.args.pivots.now)) (sym c.deref_mut.ensures.value) (crew_may v.settings p.table (g.M.Metric.space c.args.metric.now) c.args.pivots.now c.requires.space c.requires.pivots c.requires.limits c.args.scripts.now c.in_ok-workers.workers.items
     c.requires.scripts crew)
 
-pub gather-requires : goal.gather-requires
-gather-requires g c =
+pub gather-requires-clause-none : goal.gather-requires-clause-none
+gather-requires-clause-none g c = c.in_ok-replies.ensures
+
+pub gather-requires-clause-done : goal.gather-requires-clause-done
+gather-requires-clause-done g c =
     let p = c.args.pass in
     let v = place_view p in
     let scripts = c.args.scripts.now in
