@@ -549,14 +549,14 @@ module _ (c : Configuration) (t : TableId) (space : MetricSpace) (pivots : List 
 
   may_all : {R : Type 0} → (ss : List (List Op)) (ws : List (Worker R)) (w : Worker R) → AllByRecursion (IsScriptOver (metric_space c)) ss → AreToServe ss ws → AllByRecursion (Starts c t) (ws ++ w ∷ [])
       → ToTend w.task → AllByRecursion (MayWork space pivots) (ws ++ w ∷ [])
-  may_all [] [] w over to starts tends =
-      (record { at = starts.0.at; place = starts.0.place; seated = seated_at (place_view starts.0.at) starts.0.new.settings starts.0.new.claims; task = may_tend w.task tends }, tt)
-  may_all (s ∷ ss) (x ∷ ws) w over to starts tends = (
+  may_all [] [] w over to starts last =
+      (record { at = starts.0.at; place = starts.0.place; seated = seated_at (place_view starts.0.at) starts.0.new.settings starts.0.new.claims; task = may_tend w.task last }, tt)
+  may_all (s ∷ ss) (x ∷ ws) w over to starts last = (
     record { at = starts.0.at; place = starts.0.place; seated = seated_at (place_view starts.0.at) starts.0.new.settings starts.0.new.claims; task = may_serve s x.task over.0 to.0 },
-    may_all ss ws w over.1 to.1 starts.1 tends,
+    may_all ss ws w over.1 to.1 starts.1 last,
   )
-  may_all [] (x ∷ ws) w over to starts tends = absurd to
-  may_all (s ∷ ss) [] w over to starts tends = absurd to
+  may_all [] (x ∷ ws) w over to starts last = absurd to
+  may_all (s ∷ ss) [] w over to starts last = absurd to
 
   pub crew_may : {R : Type 0} → (scripts : List (List Op)) (workers : List (Worker R)) → AllByRecursion (IsScriptOver (metric_space c)) scripts → IsCrew c t scripts workers → AllByRecursion (MayWork space pivots) workers
   crew_may scripts workers over crew = subst (AllByRecursion (MayWork space pivots)) (sym crew.all) (by scripts over crew.serve)

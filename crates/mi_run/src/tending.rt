@@ -11,6 +11,9 @@ use std::alloc::Global;
 use std::sync::Wait;
 use std::thread;
 
+/// How often others may go on before it is asked again whether there is something to do.
+const PAUSE: u32 = 256;
+
 /// Makes splits and sweeps until nothing is to be done and all others have left. Whether one was
 /// given up for want of memory is told; it is the last, where the others had left when it began.
 pub fn tend<'h, R: Wait, G: Gate>(rt: &R, alloc: Global, place: &mut Place<'h, R>, gate: &G) -> bool
@@ -31,10 +34,17 @@ pub fn tend<'h, R: Wait, G: Gate>(rt: &R, alloc: Global, place: &mut Place<'h, R
             return wanted;
         }
         if turn == CareTurn::Idle {
-            thread::yield_now();
+            pause();
         }
     }
     unreachable!()
+}
+
+/// Lets others go on: a question holds the board, which they need.
+fn pause() {
+    for _ in 0..PAUSE {
+        thread::yield_now();
+    }
 }
 
 /// Whether all others had left when the operation began, or begins now.
