@@ -3,3 +3,4 @@ pub mod CrewLemmas
 pub mod GatherLemmas
 pub mod TendLemmas
 pub mod HeadlineLemmas
+pub mod TestLemmas

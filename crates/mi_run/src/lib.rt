@@ -7,3 +7,6 @@ mod tending;
 mod workers;
 
 pub use running::run;
+
+#[cfg(test)]
+mod tests;
