@@ -3,7 +3,6 @@ use Rattle.std.proofs.Common.{◌≡◌, ℕ, ◌<◌, List, [], ◌∷◌, ◌+
 use Rattle.std.specs.Prelude.{nat_le}
 use Rattle.std.specs.List.{AllByRecursion, AllZip}
 use Rattle.std.proofs.lemmas.Bool.{and_parts, false≢true, leb-true}
-use Rattle.mi_base.specs.declared.limits.TheConstants.{MAX_DIMS}
 use Rattle.mi_base.specs.Prefixes.{has}
 use Rattle.mi_base.specs.Space.{IsMetric, MetricSpace, l1_metric}
 use Rattle.mi_hall.specs.Closing.{IsLast}

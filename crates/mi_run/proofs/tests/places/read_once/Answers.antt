@@ -1,5 +1,4 @@
-use Rattle.std.proofs.Common.{◌≡◌, List, length, true, subst, ap, ◌∙◌, sym}
-use Rattle.mi_tree.specs.declared.outcomes.Leaf.{Leaf}
+use Rattle.std.proofs.Common.{◌≡◌, true, subst, ◌∙◌}
 use Rattle.mi_tree.specs.Catalog.{CatalogState}
 use Rattle.mi_tree.specs.Counting.{has_leaf}
 use Rattle.mi_run.proofs.TestLemmas.{first_leaf, none_within}

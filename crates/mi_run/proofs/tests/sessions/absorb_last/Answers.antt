@@ -1,4 +1,4 @@
-use Rattle.std.proofs.Common.{◌≡◌, ◌++◌, option_to_list, sym, ap, ◌∙◌, subst}
+use Rattle.std.proofs.Common.{◌++◌, option_to_list, sym, ap, ◌∙◌, subst}
 use Rattle.std.specs.List.{AllByRecursion}
 use Rattle.mi_run.proofs.TestLemmas.{all_last, all_on}
 use Rattle.mi_run.proofs.tests.sessions.absorb_last.Goals as goal
