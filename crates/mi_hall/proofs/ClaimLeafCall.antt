@@ -31,7 +31,7 @@ use Rattle.mi_world.specs.Claims.{ClaimsLeaf}
 use Rattle.mi_hall.specs.Passes.{HasCells, IsPass, PassState, giving, row_actor}
 use Rattle.mi_hall.specs.Places.{untold}
 use Rattle.mi_hall.specs.Seats.{seat_view}
-use Rattle.mi_hall.specs.WorkRows.{ClaimsRow}
+use Rattle.mi_solo.specs.BoardRows.{ClaimsRow}
 use Rattle.mi_hall.proofs.BoardPlaces.{claims_held_seated, claims_leaf_seated}
 use Rattle.mi_hall.proofs.BoardSection.{board_cells, board_section, found}
 use Rattle.mi_hall.proofs.PassLemmas.{found_settings, pass_rows, row_found, told_of}

@@ -37,7 +37,8 @@ use Rattle.mi_solo.specs.declared.rows.ActorRow.{ActorRow}
 use Rattle.mi_solo.specs.States.{actor_of}
 use Rattle.mi_tree.specs.Legal.{cells_of}
 use Rattle.mi_world.specs.View.{View}
-use Rattle.mi_hall.specs.CommitRows.{IsAtHand, giving_beside, kept_out}
+use Rattle.mi_solo.specs.CommitRows.{IsAtHand}
+use Rattle.mi_hall.specs.CommitRows.{giving_beside, kept_out}
 use Rattle.mi_hall.specs.Passes.{AreNear, HasCells, HasOut, IsPass, row_actor, turning}
 use Rattle.mi_hall.specs.Places.{BothMake, HasRows, IsBacked, gives_both}
 use Rattle.mi_hall.specs.Seats.{rows_out, seat_view}

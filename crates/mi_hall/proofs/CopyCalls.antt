@@ -45,12 +45,12 @@ use Rattle.mi_world.specs.declared.answers.Put.TheVariants as put
 use Rattle.mi_world.specs.Splits.{CopiesIn, IsGathered, Uncopies, last_copy, next_copy}
 use Rattle.mi_world.specs.View.{View}
 use Rattle.mi_hall.specs.Knowledge.{is_named}
-use Rattle.mi_hall.specs.LeafRows.{CopiesRow, IsFull, IsRowCopy, IsSplitting, PutsCopy, TakesBack, UncopiesRow, copied_by, copy_key, gathered_by, gathered_of}
-use Rattle.mi_hall.specs.PageRows.{OnlyNotes}
+use Rattle.mi_solo.specs.LeafRows.{CopiesRow, IsFull, IsRowCopy, IsSplitting, PutsCopy, TakesBack, UncopiesRow, copied_by, copy_key, gathered_by, gathered_of}
+use Rattle.mi_solo.specs.PageRows.{OnlyNotes}
 use Rattle.mi_hall.specs.Passes.{IsPass, PassState, row_actor, turning}
 use Rattle.mi_hall.specs.Places.{IsBacked, PageMakes}
 use Rattle.mi_hall.specs.Seats.{seat_view}
-use Rattle.mi_hall.proofs.CopyRows.{keys_many, row_key, split_there}
+use Rattle.mi_solo.proofs.CopyRows.{keys_many, row_key, split_there}
 use Rattle.mi_hall.proofs.NamedPages.{names_after, names_child}
 use Rattle.mi_hall.proofs.PageSection.{backed, here, noted_does, noted_tells, turn_makes, turn_names, turn_tells}
 use Rattle.mi_hall.proofs.SeatConditions.{low_seated}
@@ -211,14 +211,14 @@ module _ (settings : Configuration) (old m : Seated) (page : ℕ) (had : Node) (
           row_is = x.row_is;
         }
 
-      pub copies_does : (answer : Put) → CopiesRow settings page had row answer n made → HoldsLast m (page + 17) (OfPage had) → Doing settings m.0 (turning m.0 made n) (page + 17) (OfPage n)
+      pub copies_does : (answer : Put) → CopiesRow settings page answer had row n made → HoldsLast m (page + 17) (OfPage had) → Doing settings m.0 (turning m.0 made n) (page + 17) (OfPage n)
       copies_does (put.Down q) x last = noted_does settings old m page had a row rows told p is f made x.1.row_is n x.1.same last
       copies_does (put.Right q) x last = noted_does settings old m page had a row rows told p is f made x.1.row_is n x.1.same last
       copies_does put.PageFull x last = noted_does settings old m page had a row rows told p is f made x.1.row_is n (full_notes x.0 x.1).same last
       copies_does put.Done x last = copied_does x.1 x.0 x.2 x.3 last
 
       module _ (new : Seated) (gave : new ≡ (turning m.0 made n, rest m.1)) where
-        tells : (answer : Put) → CopiesRow settings page had row answer n made → CopiesIn (seat_view old.0) (seat_view new.0) page answer
+        tells : (answer : Put) → CopiesRow settings page answer had row n made → CopiesIn (seat_view old.0) (seat_view new.0) page answer
         tells (put.Down q) x = noting_tells n made new gave
             (λ c v w. IsTrue (v.named page) → ((i : ℕ) → Some q ≡ Some i → IsTrue (w.named i)) → node_at c.pages page ≡ Some had → PointsDown had 0 (next_copy v) q → CopiesIn v w page (put.Down q))
             (copies_down_seated page had q) x.1 known (names n made new gave q (names_child had (copy_key settings row (copied_by row)) q x.0.route)) at_page (subst (λ k. PointsDown had 0 k q) next_shown x.0)
@@ -230,7 +230,7 @@ module _ (settings : Configuration) (old m : Seated) (page : ℕ) (had : Node) (
             (copies_full_seated page had) (full_notes x.0 x.1) known at_page (subst (EndsAfter had 0) next_shown x.0) (ap (λ (z : Actor). item_count (trim_leaf z.floor.updates had)) p.row_is ∙ full_items x.0 x.1)
         tells put.Done x = copied_tells x.1 x.0 x.2 x.3 new gave
 
-        pub copies_told : (answer : Put) → CopiesRow settings page had row answer n made → CopiesIn (seat_view was.sight) (seat_view new.0) page answer
+        pub copies_told : (answer : Put) → CopiesRow settings page answer had row n made → CopiesIn (seat_view was.sight) (seat_view new.0) page answer
         copies_told answer x = subst (λ (v : Sight). CopiesIn (seat_view v) (seat_view new.0) page answer) (sym sight_is) (tells answer x)
 
   -- the last copy is taken back
@@ -294,14 +294,14 @@ module _ (settings : Configuration) (old m : Seated) (page : ℕ) (had : Node) (
             (uncopies_seated page had back_it old.0.mine.told) (back_makes.does f.core f.held.kept f.held.same back.fits at_page).0 less back_tie (set_there f.core.actors old.0.actor less r back.fits.part)
             (get_or-set_same f.core.pages page (Some (drop_entry back_it.key had)) None (within f.core.pages page had at_page) ∙ ap Some (sym back_node)) refl refl known refl
 
-      pub uncopies_does : (answer : Put) → UncopiesRow settings page told had row answer n made → HoldsLast m (page + 17) (OfPage had) → Doing settings m.0 (turning m.0 made n) (page + 17) (OfPage n)
+      pub uncopies_does : (answer : Put) → UncopiesRow settings page told answer had row n made → HoldsLast m (page + 17) (OfPage had) → Doing settings m.0 (turning m.0 made n) (page + 17) (OfPage n)
       uncopies_does (put.Down q) x last = noted_does settings old m page had a row rows told p is f made x.1.row_is n x.1.same last
       uncopies_does (put.Right q) x last = noted_does settings old m page had a row rows told p is f made x.1.row_is n x.1.same last
       uncopies_does put.PageFull x last = absurd x
       uncopies_does put.Done x last = back_does x.1 x.0 x.2 x.3 last
 
       module _ (new : Seated) (gave : new ≡ (turning m.0 made n, rest m.1)) where
-        back_told : (answer : Put) → UncopiesRow settings page told had row answer n made → Uncopies (seat_view old.0) (seat_view new.0) page answer
+        back_told : (answer : Put) → UncopiesRow settings page told answer had row n made → Uncopies (seat_view old.0) (seat_view new.0) page answer
         back_told (put.Down q) x = noting_tells n made new gave
             (λ c v w. IsTrue (v.named page) → ((i : ℕ) → Some q ≡ Some i → IsTrue (w.named i)) → node_at c.pages page ≡ Some had → PointsDown had 0 (last_copy v) q → Uncopies v w page (put.Down q))
             (uncopies_down_seated page had q) x.1 known (names n made new gave q (names_child had (copy_key settings row (copied_by row - 1)) q x.0.route)) at_page (subst (λ k. PointsDown had 0 k q) last_shown x.0)
@@ -311,5 +311,5 @@ module _ (settings : Configuration) (old m : Seated) (page : ℕ) (had : Node) (
         back_told put.PageFull x = absurd x
         back_told put.Done x = back_tells x.1 x.0 x.2 x.3 new gave
 
-        pub uncopies_told : (answer : Put) → UncopiesRow settings page told had row answer n made → Uncopies (seat_view was.sight) (seat_view new.0) page answer
+        pub uncopies_told : (answer : Put) → UncopiesRow settings page told answer had row n made → Uncopies (seat_view was.sight) (seat_view new.0) page answer
         uncopies_told answer x = subst (λ (v : Sight). Uncopies (seat_view v) (seat_view new.0) page answer) (sym sight_is) (back_told answer x)

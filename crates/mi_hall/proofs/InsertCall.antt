@@ -47,14 +47,15 @@ use Rattle.mi_world.specs.declared.answers.Commit.TheVariants as commit
 use Rattle.mi_world.specs.LeafKeys.{key_under}
 use Rattle.mi_world.specs.Pages.{CommitsInsert, MayInsert, MaySeek, insert_key, next_number}
 use Rattle.mi_world.specs.View.{View, prefix_or}
-use Rattle.mi_hall.specs.CommitRows.{EntersRow, InsertsRow, IsMade, MayEnter, OnlyMeets, PutsEntry, giving_beside, key_in_row, next_birth}
+use Rattle.mi_solo.specs.CommitRows.{EntersRow, InsertsRow, IsMade, MayEnter, OnlyMeets, PutsEntry, key_in_row, next_birth}
+use Rattle.mi_hall.specs.CommitRows.{giving_beside}
 use Rattle.mi_hall.specs.Knowledge.{is_named}
 use Rattle.mi_hall.specs.Passes.{HasCells, IsPass, PassState, turning}
 use Rattle.mi_hall.specs.Places.{BothMake, IsBacked}
 use Rattle.mi_hall.specs.Seats.{seat_view}
 use Rattle.mi_hall.proofs.CommitPasses.{Commits, Keeps, back, ended_cells, ended_tells, ends, found, has_rows, here, holds_both, holds_commit, in_hand, its_settings, outs_are, row_there, shard_near, telling, tells}
 use Rattle.mi_hall.proofs.CommitPlaces.{inserts_crowded_seated, inserts_down_seated, inserts_full_seated, inserts_page_full_seated, inserts_right_seated, inserts_seated}
-use Rattle.mi_hall.proofs.InsertRow.{may_enter}
+use Rattle.mi_solo.proofs.InsertRow.{may_enter}
 use Rattle.mi_hall.proofs.KnowledgeLemmas.{first_named}
 use Rattle.mi_hall.proofs.NamedPages.{names_after, names_child}
 use Rattle.mi_hall.proofs.PageSection as section
@@ -277,7 +278,7 @@ module _ (settings : Configuration) (start : Seated) (page : ℕ) (had : Node) (
 
     module _ (op : ℕ) (leaf : had.level ≡ 0) (small : id < 2 ^ 40) where
       abbrev pub Made : Commit → Type 0
-      Made answer = InsertsRow start.0.actor page op id (key_in_row b.settings row dists id (next_birth b)) vector dists b had x row answer board n kept made
+      Made answer = InsertsRow start.0.actor page op id (key_in_row b.settings row dists id (next_birth b)) vector dists answer b had x row board n kept made
 
       enters : (e : Entry) → IsMade (key_in_row b.settings row dists id (next_birth b)) (next_birth b) vector dists e → EndsAfter had 0 (key_in_row b.settings row dists id (next_birth b)) → HasRoom b → crowded_at b ((grid b.settings).perm vector) ≡ false
           → length (without_dead row.floor.updates had.entries) < 32 → CanInsert at.core start.0.mine.part id page had x e

@@ -46,14 +46,12 @@ pub mod ClaimLeafCall
 pub mod NextWorkCall
 pub mod PublishCall
 pub mod GiveUpCall
-pub mod InsertRow
 pub mod CommitPasses
 pub mod InsertCall
 pub mod CommitGives
 pub mod DeleteCall
 pub mod ReserveCall
 pub mod SweepCall
-pub mod CopyRows
 pub mod CopyCalls
 pub mod GatherRows
 pub mod GatherCall

@@ -32,7 +32,7 @@ use Rattle.mi_world.specs.Boards.{GivesWork}
 use Rattle.mi_hall.specs.Passes.{HasCells, IsPass, PassState, giving, row_actor}
 use Rattle.mi_hall.specs.Places.{untold}
 use Rattle.mi_hall.specs.Seats.{seat_view}
-use Rattle.mi_hall.specs.WorkRows.{SweepFits, WorksRow}
+use Rattle.mi_solo.specs.BoardRows.{SweepFits, WorksRow}
 use Rattle.mi_hall.proofs.BoardPlaces.{idle_seated, split_seated, sweep_seated}
 use Rattle.mi_hall.proofs.BoardSection.{board_cells, board_section, found}
 use Rattle.mi_hall.proofs.PassLemmas.{pass_rows, row_found, told_of}
@@ -66,7 +66,7 @@ module _ (settings : Configuration) (old m : Seated) (a : ℕ) (row : ActorRow) 
 
   module _ (made : ActorRow) (board : BoardState) where
     -- the leaf that was split first is to be swept
-    module _ (leaf : List ℕ) (d : WorksRow a b row (Sweep leaf) board made) where
+    module _ (leaf : List ℕ) (d : WorksRow a (Sweep leaf) b row board made) where
       abbrev sweeps : BoardState → Actor → Actor
       sweeps z r = record (looked z r) { sweep = Some (record { leaf = leaf; mark = (cell_range (grid z.settings) leaf).from }) }
 
@@ -94,7 +94,7 @@ module _ (settings : Configuration) (old m : Seated) (a : ℕ) (row : ActorRow) 
       sweep_cells new gave = board_cells settings old m b p.live is f (take_sweep leaf) can (λ z. sweeps z old.0.mine.part) given refl refl board d.0.1 made tie told new.0 (ap (λ (z : Seated). z.0) gave)
 
     -- the first free leaf is to be split
-    module _ (leaf : Leaf) (d : WorksRow a b row (Split leaf) board made) where
+    module _ (leaf : Leaf) (d : WorksRow a (Split leaf) b row board made) where
       abbrev splits : BoardState → Actor → Actor
       splits z r = record (looked z r) { claim = Some leaf.prefix }
 
@@ -127,7 +127,7 @@ module _ (settings : Configuration) (old m : Seated) (a : ℕ) (row : ActorRow) 
       split_cells new gave = board_cells settings old m b p.live is f (take_split leaf.prefix) can_split (λ z. splits z old.0.mine.part) claiming refl refl board back made tie_split told new.0 (ap (λ (z : Seated). z.0) gave)
 
     -- there is nothing to do
-    module _ (d : WorksRow a b row Idle board made) where
+    module _ (d : WorksRow a Idle b row board made) where
       can_idle : Can x.core old.0.actor old.0.mine.part no_work
       can_idle = (both, subst (λ (z : BoardState). next_sweep z ≡ None) (sym x.board) d.0.0, subst (λ (z : BoardState). next_split z ≡ None) (sym x.board) d.0.1.0)
 
@@ -148,33 +148,33 @@ module _ (settings : Configuration) (old m : Seated) (a : ℕ) (row : ActorRow) 
       idle_cells new gave = board_cells settings old m b p.live is f no_work can_idle (λ z. looked z old.0.mine.part) (λ z. z) refl refl board d.0.1.1 made tie_idle told new.0 (ap (λ (z : Seated). z.0) gave)
 
     -- each
-    pub works_does : (work : Work) → WorksRow a b row work board made → HoldsLast m 0 (OfBoard b) → Doing settings m.0 (giving m.0 made board told (rest m.0.out)) 0 (OfBoard board)
+    pub works_does : (work : Work) → WorksRow a work b row board made → HoldsLast m 0 (OfBoard b) → Doing settings m.0 (giving m.0 made board told (rest m.0.out)) 0 (OfBoard board)
     works_does (Sweep leaf) d = sweep_does leaf d
     works_does (Split leaf) d = split_does leaf d
     works_does Idle d = idle_does d
 
-    pub works_told : (work : Work) → WorksRow a b row work board made → (new : Seated) → new ≡ (giving m.0 made board told (rest m.0.out), rest m.1) → GivesWork (seat_view was.sight) (seat_view new.0) work
+    pub works_told : (work : Work) → WorksRow a work b row board made → (new : Seated) → new ≡ (giving m.0 made board told (rest m.0.out), rest m.1) → GivesWork (seat_view was.sight) (seat_view new.0) work
     works_told (Sweep leaf) d = sweep_told leaf d
     works_told (Split leaf) d = split_told leaf d
     works_told Idle d = idle_told d
 
-    pub works_cells : (work : Work) → WorksRow a b row work board made → (new : Seated) → new ≡ (giving m.0 made board told (rest m.0.out), rest m.1) → HasCells new.0.mine
+    pub works_cells : (work : Work) → WorksRow a work b row board made → (new : Seated) → new ≡ (giving m.0 made board told (rest m.0.out), rest m.1) → HasCells new.0.mine
     works_cells (Sweep leaf) d = sweep_cells leaf d
     works_cells (Split leaf) d = split_cells leaf d
     works_cells Idle d = idle_cells d
 
     -- the root, the shard and the page in hand stay
-    pub works_root : (work : Work) → WorksRow a b row work board made → board.root ≡ b.root
+    pub works_root : (work : Work) → WorksRow a work b row board made → board.root ≡ b.root
     works_root (Sweep leaf) d = ap (λ (z : BoardState). z.root) d.0.1
     works_root (Split leaf) d = ap (λ (z : BoardState). z.root) d.0.1.1
     works_root Idle d = ap (λ (z : BoardState). z.root) d.0.1.1
 
-    pub works_shard : (work : Work) → WorksRow a b row work board made → made.shard ≡ row.shard
+    pub works_shard : (work : Work) → WorksRow a work b row board made → made.shard ≡ row.shard
     works_shard (Sweep leaf) d = ap (λ (z : ActorRow). z.shard) d.1
     works_shard (Split leaf) d = ap (λ (z : ActorRow). z.shard) d.1
     works_shard Idle d = ap (λ (z : ActorRow). z.shard) d.1
 
-    pub works_hand : (work : Work) → WorksRow a b row work board made → made.hand.fresh ≡ row.hand.fresh
+    pub works_hand : (work : Work) → WorksRow a work b row board made → made.hand.fresh ≡ row.hand.fresh
     works_hand (Sweep leaf) d = ap (λ (z : ActorRow). z.hand.fresh) d.1
     works_hand (Split leaf) d = ap (λ (z : ActorRow). z.hand.fresh) d.1
     works_hand Idle d = ap (λ (z : ActorRow). z.hand.fresh) d.1

@@ -1,5 +1,5 @@
 -- A section of a page, from a seat's take of it to its give.
-use Rattle.std.proofs.Common.{◌≡◌, ℕ, ◌+◌, ◌<◌, Bool, true, IsTrue, refl, sym, ap, ◌∙◌, subst, Option, Some}
+use Rattle.std.proofs.Common.{◌≡◌, ℕ, ◌+◌, ◌<◌, Bool, true, IsTrue, refl, sym, ap, ◌∙◌, subst, set, Option, Some, None, get_or-set_same}
 use Rattle.std.specs.Prelude.{slice_get}
 use Rattle.atomic_table.specs.Seated.{TableId}
 use Rattle.atomic_table.specs.Table.{rest}
@@ -7,9 +7,11 @@ use Rattle.mi_base.specs.Configuration.{Configuration}
 use Rattle.mi_core.specs.Effects.{noted}
 use Rattle.mi_core.specs.Events.{Can, Event, after}
 use Rattle.mi_core.specs.Events.Event.{visit}
+use Rattle.mi_core.specs.Kept.{Kept}
 use Rattle.mi_core.specs.Named.{IsNamed, Named}
 use Rattle.mi_core.specs.State.{State, node_at}
 use Rattle.mi_core.proofs.ActorLemmas.{set_there}
+use Rattle.mi_core.proofs.PageLemmas.{within}
 use Rattle.mi_core.proofs.LaterEvents.{event_leads_on}
 use Rattle.mi_entries.specs.Actors.{Actor}
 use Rattle.mi_entries.specs.Records.{Rows, shard_at}
@@ -18,7 +20,7 @@ use Rattle.mi_latch.specs.declared.slots.Slot.TheVariants.{OfPage}
 use Rattle.mi_latch.specs.Naming.{names_of}
 use Rattle.mi_latch.specs.PageSteps.{MakesPage, noting}
 use Rattle.mi_latch.specs.Takes.{Finds, see_none, took}
-use Rattle.mi_latch.specs.Views.{Doing, HoldsLast, IsOne, Seated, Sight, now}
+use Rattle.mi_latch.specs.Views.{Doing, Fits, HoldsLast, IsOne, Seated, Sight, now}
 use Rattle.mi_latch.proofs.Ones.{of_page, of_rows, read_page, read_shard}
 use Rattle.mi_latch.proofs.PageChanges.{named_later}
 use Rattle.mi_latch.proofs.PageDoings.{page_does}
@@ -27,7 +29,9 @@ use Rattle.mi_latch.proofs.PageNames.{names_stand}
 use Rattle.mi_latch.proofs.Steps.{me}
 use Rattle.mi_page.specs.Nodes.{Node}
 use Rattle.mi_solo.specs.declared.rows.ActorRow.{ActorRow}
+use Rattle.mi_solo.specs.OnPages.{KeepsRow, TurnsPage}
 use Rattle.mi_solo.specs.Seeking.{HasSibling}
+use Rattle.mi_solo.specs.States.{pin_of}
 use Rattle.mi_solo.proofs.DescentLemmas.{has_sibling}
 use Rattle.mi_world.specs.View.{View}
 use Rattle.mi_hall.specs.Knowledge.{is_named}
@@ -79,6 +83,22 @@ module _ (settings : Configuration) (old m : Seated) (page : ℕ) (had : Node) (
       turn_does settings m page had n to made last (subst (λ (z : Seated). to ≡ row_actor z.0.mine.note.board.settings z.0.mine.part made) (sym is) tie)
       (page_does settings m page had n to (names_of had) e last (subst (λ (z : Seated). MakesPage settings z.0.actor z.0.mine page had n to (names_of had) e) (sym is) makes))
 
+  -- so is one that makes this page, and the record of this row, of any state that has the page and the record of the row in hand
+  pub row_gives : (n : Node) (made : ActorRow) (e : Event) → KeepsRow row made
+      → ((c : State) → Kept c → c.board.settings ≡ settings → Fits c old.0.actor old.0.mine → node_at c.pages page ≡ Some had
+      → TurnsPage c old.0.actor (row_actor old.0.mine.note.board.settings old.0.mine.part row) e page n (row_actor old.0.mine.note.board.settings old.0.mine.part made))
+      → HoldsLast m (page + 17) (OfPage had) → Doing settings m.0 (turning m.0 made n) (page + 17) (OfPage n)
+  row_gives n made e keeps turns last =
+      let to = row_actor old.0.mine.note.board.settings old.0.mine.part made in
+      turn_makes n to made e (record {
+        does = λ c k same fits there. subst (λ (q : Actor). TurnsPage c old.0.actor q e page n to) (sym p.row_is) (turns c k same fits there);
+        named = λ c k fits there. names_stand c k.sound page had there;
+        seen = keeps.seen ∙ sym (ap (λ (z : Actor). z.seen) p.row_is);
+        claim = keeps.claim ∙ sym (ap (λ (z : Actor). z.claim) p.row_is);
+        pin = ap (pin_of old.0.mine.note.board.settings) keeps.pin ∙ sym (ap (λ (z : Actor). z.pin) p.row_is);
+        going = keeps.ended ∙ sym (ap (λ (z : Actor). z.ended) p.row_is);
+      }) refl last
+
   -- where the page is noted, and goes back as it was
   pub noted_tie : (made : ActorRow) → made ≡ record row { page = page } → noted page old.0.mine.part ≡ row_actor old.0.mine.note.board.settings old.0.mine.part made
   noted_tie made is_made = ap (noted page) p.row_is ∙ ap (row_actor old.0.mine.note.board.settings old.0.mine.part) (sym is_made)
@@ -125,6 +145,19 @@ module _ (settings : Configuration) (old m : Seated) (page : ℕ) (had : Node) (
         named_later c t (event_leads_on e c f.held.kept.sound v.actor v.mine.part backed.fits.part can) x (names_stand c f.held.kept.sound page had here x one) in
         let is_new : new.0 ≡ seat to = ap (λ (z : Seated). z.0) turned ∙ ap seat (sym tie) in
         subst (λ z. rel c (seat_view v) (seat_view z)) (sym is_new) (law c v backed can to there n left (names_of had) named v.out held)
+
+    -- the same of an event that makes this page and the record of this row
+    pub row_tells : (e : Event) (rel : State → View → View → Type 0) → PageMakes e rel
+        → TurnsPage f.core old.0.actor (row_actor old.0.mine.note.board.settings old.0.mine.part row) e page n (row_actor old.0.mine.note.board.settings old.0.mine.part made)
+        → KeepsRow row made → made.page ≡ page → rel f.core (seat_view old.0) (seat_view new.0)
+    row_tells e rel law turns keeps at =
+        let i = old.0.actor in
+        let to = row_actor old.0.mine.note.board.settings old.0.mine.part made in
+        let y = subst (λ (q : Actor). TurnsPage f.core i q e page n to) (sym p.row_is) turns in
+        turn_tells e rel law y.0 to refl
+        (ap (λ (t : State). slice_get t.actors i) y.1 ∙ set_there f.core.actors i to old.0.mine.part backed.fits.part)
+        (ap (λ (t : State). node_at t.pages to.page) y.1 ∙ ap (node_at (set f.core.pages page (Some n))) at ∙ get_or-set_same f.core.pages page (Some n) None (within f.core.pages page had here))
+        (ap (λ (t : State). t.shards) y.1) (keeps.shard ∙ sym (ap (λ (z : Actor). z.shard) p.row_is))
 
     -- and a visit, after which the page is as it was
     pub noted_tells : (rel : State → View → View → Type 0) → PageMakes (visit page) rel → made ≡ record row { page = page } → n ≡ had → rel f.core (seat_view old.0) (seat_view new.0)

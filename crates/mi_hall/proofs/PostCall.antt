@@ -31,7 +31,7 @@ use Rattle.mi_world.specs.declared.answers.Put.TheVariants as put
 use Rattle.mi_world.specs.Pages.{IsChildAt, MayPost, Posts}
 use Rattle.mi_world.specs.View.{View}
 use Rattle.mi_hall.specs.Knowledge.{is_named}
-use Rattle.mi_hall.specs.PageRows.{OnlyNotes, PaysRoute, PostsRow}
+use Rattle.mi_solo.specs.PageRows.{OnlyNotes, PaysRoute, PostsRow}
 use Rattle.mi_hall.specs.Passes.{IsPass, PassState, row_actor, turning}
 use Rattle.mi_hall.specs.Places.{IsBacked, PageMakes}
 use Rattle.mi_hall.specs.Seats.{seat_view}
@@ -41,21 +41,21 @@ use Rattle.mi_hall.proofs.PageSection.{backed, here, noted_does, noted_tells, tu
 use Rattle.mi_hall.proofs.SeatConditions.{child_seated, post_seated}
 
 -- the work leaves the shard in hand
-pub posts_shard : (page level key child : ℕ) (n new : Node) (row made : ActorRow) (answer : Put) → PostsRow page level key child n row answer new made → made.shard ≡ row.shard
+pub posts_shard : (page level key child : ℕ) (n new : Node) (row made : ActorRow) (answer : Put) → PostsRow page level key child answer n row new made → made.shard ≡ row.shard
 posts_shard page level key child n new row made (put.Down p) x = ap (λ (z : ActorRow). z.shard) x.1.row_is
 posts_shard page level key child n new row made (put.Right p) x = ap (λ (z : ActorRow). z.shard) x.1.row_is
 posts_shard page level key child n new row made put.PageFull x = ap (λ (z : ActorRow). z.shard) x.2.row_is
 posts_shard page level key child n new row made put.Done x = ap (λ (z : ActorRow). z.shard) x.1.row_is
 
 -- its pin
-pub posts_pin : (page level key child : ℕ) (n new : Node) (row made : ActorRow) (answer : Put) → PostsRow page level key child n row answer new made → made.pin ≡ row.pin
+pub posts_pin : (page level key child : ℕ) (n new : Node) (row made : ActorRow) (answer : Put) → PostsRow page level key child answer n row new made → made.pin ≡ row.pin
 posts_pin page level key child n new row made (put.Down p) x = ap (λ (z : ActorRow). z.pin) x.1.row_is
 posts_pin page level key child n new row made (put.Right p) x = ap (λ (z : ActorRow). z.pin) x.1.row_is
 posts_pin page level key child n new row made put.PageFull x = ap (λ (z : ActorRow). z.pin) x.2.row_is
 posts_pin page level key child n new row made put.Done x = ap (λ (z : ActorRow). z.pin) x.1.row_is
 
 -- and the fresh page
-pub posts_hand : (page level key child : ℕ) (n new : Node) (row made : ActorRow) (answer : Put) → PostsRow page level key child n row answer new made → made.hand.fresh ≡ row.hand.fresh
+pub posts_hand : (page level key child : ℕ) (n new : Node) (row made : ActorRow) (answer : Put) → PostsRow page level key child answer n row new made → made.hand.fresh ≡ row.hand.fresh
 posts_hand page level key child n new row made (put.Down p) x = ap (λ (z : ActorRow). z.hand.fresh) x.1.row_is
 posts_hand page level key child n new row made (put.Right p) x = ap (λ (z : ActorRow). z.hand.fresh) x.1.row_is
 posts_hand page level key child n new row made put.PageFull x = ap (λ (z : ActorRow). z.hand.fresh) x.2.row_is
@@ -122,7 +122,7 @@ module _ (settings : Configuration) (old m : Seated) (page : ℕ) (had : Node) (
     pay_tie : PaysRoute page key child had row n made → record old.0.mine.part { page = page; owed = paid child old.0.mine.part.owed } ≡ row_actor old.0.mine.note.board.settings old.0.mine.part made
     pay_tie x = ap (λ (z : Actor). let y : Actor = record z { page = page; owed = paid child z.owed } in y) p.row_is ∙ ap (row_actor old.0.mine.note.board.settings old.0.mine.part) (sym x.row_is)
 
-    pub posts_does : (answer : Put) → PostsRow page level key child had row answer n made → HoldsLast m (page + 17) (OfPage had) → Doing settings m.0 (turning m.0 made n) (page + 17) (OfPage n)
+    pub posts_does : (answer : Put) → PostsRow page level key child answer had row n made → HoldsLast m (page + 17) (OfPage had) → Doing settings m.0 (turning m.0 made n) (page + 17) (OfPage n)
     posts_does (put.Down q) x last = noted_does settings old m page had a row rows told p is f made x.1.row_is n x.1.same last
     posts_does (put.Right q) x last = noted_does settings old m page had a row rows told p is f made x.1.row_is n x.1.same last
     posts_does put.PageFull x last = noted_does settings old m page had a row rows told p is f made x.2.row_is n x.2.same last
@@ -139,7 +139,7 @@ module _ (settings : Configuration) (old m : Seated) (page : ℕ) (had : Node) (
       noting_tells : (answer : Put) (rel : State → View → View → Type 0) → PageMakes (visit page) rel → OnlyNotes page had row n made → rel f.core (seat_view old.0) (seat_view new.0)
       noting_tells answer rel law x = noted_tells settings old m page had a row rows told p is f new made n gave rel law x.row_is x.same
 
-      tells : (answer : Put) → PostsRow page level key child had row answer n made → Posts (seat_view old.0) (seat_view new.0) page level key child answer
+      tells : (answer : Put) → PostsRow page level key child answer had row n made → Posts (seat_view old.0) (seat_view new.0) page level key child answer
       tells (put.Down q) x = noting_tells (put.Down q)
           (λ c v w. IsTrue (v.named page) → ((i : ℕ) → Some q ≡ Some i → IsTrue (w.named i)) → node_at c.pages page ≡ Some had → PointsDown had level key q → Posts v w page level key child (put.Down q))
           (posts_down_seated page had level key child q) x.1 known (names q (names_child had key q x.0.route)) at_page x.0
@@ -155,5 +155,5 @@ module _ (settings : Configuration) (old m : Seated) (page : ℕ) (had : Node) (
           (posts_done_seated page had level key child) (at_page, can x.0 x.1.few) paying (pay_tie x.1) (set_there f.core.actors old.0.actor paying r back.fits.part)
           (get_or-set_same f.core.pages page (Some done) None long ∙ ap Some (sym x.1.posted)) refl refl known x.0.level
 
-      pub posts_told : (answer : Put) → PostsRow page level key child had row answer n made → Posts (seat_view was.sight) (seat_view new.0) page level key child answer
+      pub posts_told : (answer : Put) → PostsRow page level key child answer had row n made → Posts (seat_view was.sight) (seat_view new.0) page level key child answer
       posts_told answer x = subst (λ (v : Sight). Posts (seat_view v) (seat_view new.0) page level key child answer) (sym sight_is) (tells answer x)

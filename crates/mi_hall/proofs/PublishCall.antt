@@ -33,7 +33,7 @@ use Rattle.mi_world.specs.View.{View}
 use Rattle.mi_hall.specs.Passes.{HasCells, IsPass, PassState, giving, row_actor}
 use Rattle.mi_hall.specs.Places.{IsBacked, untold}
 use Rattle.mi_hall.specs.Seats.{seat_view}
-use Rattle.mi_hall.specs.WorkRows.{MayEnter, PublishesRow}
+use Rattle.mi_solo.specs.BoardRows.{MayEnter, PublishesRow}
 use Rattle.mi_hall.proofs.BoardPlaces.{publishes_none_seated, publishes_seated}
 use Rattle.mi_hall.proofs.BoardSection.{board_cells, board_section, found, found_backs}
 use Rattle.mi_hall.proofs.PassLemmas.{pass_rows, row_found, told_of}

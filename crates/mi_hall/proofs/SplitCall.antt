@@ -41,7 +41,7 @@ use Rattle.mi_solo.proofs.RouteLaws.{full_kept}
 use Rattle.mi_world.specs.declared.answers.Parted.TheVariants.{Parted, Roomy}
 use Rattle.mi_world.specs.Pages.{PartsPage}
 use Rattle.mi_world.specs.View.{View}
-use Rattle.mi_hall.specs.PageRows.{HalvesRow, HalvesWhole}
+use Rattle.mi_solo.specs.PageRows.{HalvesRow, HalvesWhole}
 use Rattle.mi_hall.specs.Passes.{AreNear, HasCells, HasOut, HasWord, IsPass, PassState, halving_turn, row_actor, turning}
 use Rattle.mi_hall.specs.Knowledge.{is_named}
 use Rattle.mi_hall.specs.Places.{HasRows, IsBacked, PageMakes, gives_page}
@@ -156,7 +156,7 @@ module _ (settings : Configuration) (start : Seated) (page child : ℕ) (had : N
   still : (e : Event) → Can f.core start.0.actor start.0.mine.part e → (x : Named) → IsOne x (names_of had) → IsNamed (after f.core start.0.actor start.0.mine.part e).pages x
   still e can x one = named_later f.core (after f.core start.0.actor r e) (event_leads_on e f.core f.held.kept.sound start.0.actor r back.fits.part can) x (names_stand f.core f.held.kept.sound page had at_page x one)
 
-  module _ (made : ActorRow) (n : Node) (d : HalvesRow page had row None n made) where
+  module _ (made : ActorRow) (n : Node) (d : HalvesRow page None had row n made) where
     noted_tie : noted page start.0.mine.part ≡ row_actor start.0.mine.note.board.settings start.0.mine.part made
     noted_tie = ap (noted page) p.row_is ∙ ap (row_actor s r) (sym d.2)
 
@@ -214,7 +214,7 @@ module _ (settings : Configuration) (start : Seated) (page child : ℕ) (had : N
     roomy_near new gave words many near = subst (λ (z : Seated). AreNear words z.0.mine.named) (sym gave)
         (more_near settings f.core f.held words many (names_of had) start.0.mine.named (names_stand f.core f.held.kept.sound page had at_page) near)
 
-  module _ (made : ActorRow) (upper n : Node) (d : HalvesRow page had row (Some upper) n made) where
+  module _ (made : ActorRow) (upper n : Node) (d : HalvesRow page (Some upper) had row n made) where
     -- nothing of a full page was trimmed
     whole : HalvesWhole page had row upper n made
     whole = subst (λ (z : Node). HalvesWhole page z row upper n made) (full_kept f.core f.held.kept page had at_page row.floor.updates d.0) d.1

@@ -6,11 +6,8 @@ pub mod Passes
 pub mod Absorbed
 pub mod Closing
 pub mod Families
-pub mod PageRows
 pub mod Roots
 pub mod ShardHolds
-pub mod WorkRows
 pub mod CommitRows
 pub mod Commits
-pub mod LeafRows
 pub mod GatherRows

@@ -4,13 +4,13 @@ ghost use Rattle.mi_board.specs.Actors.{actor_at};
 ghost use Rattle.mi_world.specs.Boards.{GivesWork};
 ghost use Rattle.mi_world.specs.Claims.{ClaimsLeaf, ReleasesLeaf};
 ghost use Rattle.mi_hall.specs.Seats.{seat_view};
-ghost use Rattle.mi_hall.specs.WorkRows.{ClaimsRow, SweepFits, WorksRow};
+ghost use Rattle.mi_solo.specs.BoardRows.{ClaimsRow};
 
 use crate::passes::{Pass, give_board};
 use mi_base::Perm;
 use mi_board::Board;
 use mi_latch::LatchTable;
-use mi_solo::cell_keys::first_key;
+use mi_solo::board_rows::work_row;
 use mi_solo::rows::ActorRow;
 use mi_tree::{LeafClaim, Work};
 use std::marker::Brand;
@@ -103,25 +103,4 @@ fn claim_row(actor: u32, perm: &Perm, board: &mut Board, row: &mut ActorRow) -> 
         LeafClaim::Held { .. } => row.see(board),
     }
     claim
-}
-
-/// Gives the actor of the row a leaf to sweep, else one to split, which it then claims, else
-/// nothing.
-fn work_row(actor: u32, board: &mut Board, row: &mut ActorRow) -> Work
-    requires known { actor < length board.old.actors }
-    requires free { (actor_at board.old.actors actor).claim ≡ None }
-    requires cells { SweepFits board.old }
-    ensures { WorksRow actor board.old row.old result board.new row.new }
-{
-    let floor = board.look().floor;
-    let work = board.next_work(actor);
-    match &work {
-        Work::Sweep { prefix } => {
-            let mark = first_key(board.settings(), prefix);
-            row.take_sweep(board, floor, prefix, mark);
-        }
-        Work::Split { leaf } => row.take_split(board, floor, &leaf.prefix),
-        Work::Idle => row.learn(board, floor),
-    }
-    work
 }

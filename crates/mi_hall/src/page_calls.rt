@@ -8,7 +8,6 @@ ghost use Rattle.mi_page.specs.Keys.{IsInside};
 ghost use Rattle.mi_page.specs.Nodes.{Node, item_count};
 ghost use Rattle.mi_solo.specs.Seeking.{HasSibling, TrimsTo};
 ghost use Rattle.mi_world.specs.Pages.{IsChildAt, IsInLeaf, MayPost, MayVisit, PartsPage, Posts, TakesAll, Trims, Visits, offered_by};
-ghost use Rattle.mi_hall.specs.PageRows.{HalvesRow, PostsRow, TrimsRow};
 ghost use Rattle.mi_hall.specs.Passes.{halving_turn, turning};
 ghost use Rattle.mi_hall.specs.Seats.{seat_view};
 
@@ -16,15 +15,12 @@ use crate::passes::Pass;
 use mi_key::{Interval, Key, Sieve};
 use mi_latch::{Aim, LatchTable, Seat, Slot};
 use mi_page::Page;
-use mi_solo::page_work::{put_route, sibling, trim_leaf};
+use mi_solo::page_rows::{halve_row, post_row, trim_row};
 use mi_solo::rows::ActorRow;
-use mi_solo::seeking::{Way, seek, visit_page};
+use mi_solo::seeking::visit_page;
 use mi_world::{Parted, Put, Visit};
 use std::marker::Brand;
 use std::sync::Wait;
-
-/// How many entries or routes a page may have.
-pub(crate) const CAPACITY: usize = 32;
 
 impl Pass {
     /// Reads the page for the interval, once it is free, and offers what it shows at the pin.
@@ -122,40 +118,6 @@ impl Pass {
     }
 }
 
-/// Puts the child's route into the page in hand, if that is of the route's level and has its key.
-fn post_row(node: &mut Page, row: &mut ActorRow, page: u32, level: u32, key: Key, child: u32) -> Put
-    requires inner { 0 < level }
-    requires above { level ≤ node.old.level }
-    requires low { node.old.low ≤ key }
-    requires sibling { HasSibling node.old }
-    ensures { PostsRow page level key child node.old row.old result node.new row.new }
-{
-    row.note(page);
-    match seek(node, level, key) {
-        Way::Down { page: next } => Put::Down { page: next },
-        Way::Right { page: next } => Put::Right { page: next },
-        Way::Here if node.len() == CAPACITY => Put::PageFull,
-        Way::Here => {
-            put_route(node, key, child);
-            row.hand.pay(child);
-            Put::Done
-        }
-    }
-}
-
-/// Takes the entries off the page in hand that are dead at the row's floor.
-fn trim_row(node: &mut Page, row: &mut ActorRow, page: u32) -> Visit
-    requires leaf { node.old.level ≡ 0 }
-    requires sibling { HasSibling node.old }
-    ensures { TrimsRow page node.old row.old result node.new row.new }
-{
-    node.trim(row.floor.updates);
-    row.note(page);
-    Visit::Read {
-        next: sibling(node),
-    }
-}
-
 /// Puts a page back, which is the event that leads to this row.
 pub(crate) fn give_page<E: Aim>(
     latches: &LatchTable,
@@ -175,21 +137,6 @@ pub(crate) fn give_page<E: Aim>(
 {
     let _row = row;
     latches.give::<E>(seat, page as usize + 17, Slot::OfPage(node));
-}
-
-/// Halves the page in hand, if it is full: what is left of a leaf page after a trim. The upper half
-/// is the fresh page.
-fn halve_row(node: &mut Page, row: &mut ActorRow, page: u32) -> Option<Page>
-    requires fresh { IsSome row.old.hand.fresh }
-    requires level { node.old.level < 4294967295 }
-    ensures { HalvesRow page node.old row.old result node.new row.new }
-{
-    row.note(page);
-    trim_leaf(node, row.floor.updates);
-    if node.len() < CAPACITY {
-        return None;
-    }
-    Some(row.hand.halve(node))
 }
 
 /// Puts the lower half of a page back, which is the event that leads to this row; the upper half

@@ -2,7 +2,7 @@
 ghost use Rattle.std.specs.Prelude.{◌≡◌, length};
 ghost use Rattle.mi_world.specs.Splits.{IsGathered, Publishes};
 ghost use Rattle.mi_hall.specs.Seats.{seat_view};
-ghost use Rattle.mi_hall.specs.WorkRows.{MayEnter, PublishesRow};
+ghost use Rattle.mi_solo.specs.BoardRows.{MayEnter, PublishesRow};
 
 use crate::passes::{Pass, give_board};
 use mi_base::{NoMemory, Position};

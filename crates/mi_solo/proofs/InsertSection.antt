@@ -30,7 +30,6 @@ use Rattle.mi_entries.specs.Records.{Shard, ShardRecord, held_by, home, no_shard
 use Rattle.mi_page.specs.Entries.{entry_cmp, entry_keys, has_entry, without_dead}
 use Rattle.mi_solo.specs.declared.cores.Core.{Core}
 use Rattle.mi_solo.specs.declared.rows.ActorRow.{ActorRow}
-use Rattle.mi_solo.specs.Sections.{CommitsInsert, EntersInsert, rows_at}
 use Rattle.mi_solo.specs.Seeking.{EndsAfter}
 use Rattle.mi_solo.specs.States.{Does, actor_in, actor_of, actors_of, node_in, state_of, view_in}
 use Rattle.mi_solo.proofs.CanLemmas.{can_insert, insert_absent}
@@ -70,23 +69,6 @@ few_entries n h leaf other =
 pub trims_leaf : (floor : ℕ) (n : Node) → n.level ≡ 0 → trim_leaf floor n ≡ trim_node floor n
 trims_leaf floor n leaf = ap (λ l. cond (l == 0) (trim_node floor n) n) leaf
 
--- the birth number that is sought at a leaf page, and above
-pub birth_at_leaf : (n m l : ℕ) → l ≡ 0 → n ≡ cond (l == 0) m 0 → n ≡ m
-birth_at_leaf n m l e is = is ∙ ap (λ k. cond (k == 0) m 0) e
-
-pub birth_above : (n m l : ℕ) → 0 < l → n ≡ cond (l == 0) m 0 → n ≡ 0
-birth_above n m l lt is = is ∙ ap (λ b. cond b m 0) (ne_eqb l 0 (λ e. absurd (omega arith)))
-
--- where the key lies in the page, that tells the answer
-pub enters : (s : State) (a page op id : ℕ) (vector : List ℤ) (dists : List ℕ) (answer : Commit) (t : State) → EndsAfter (node_in s page) 0 (insert_key (view_in s a) dists id (next_number (view_in s a)))
-    → EntersInsert s a page op id vector dists answer t → CommitsInsert s a page op id vector dists answer t
-enters s a page op id vector dists (commit.Down p) t e h = absurd h
-enters s a page op id vector dists (commit.Right p) t e h = absurd h
-enters s a page op id vector dists (commit.Full limit) t e h = (e, h)
-enters s a page op id vector dists commit.Crowded t e h = (e, h)
-enters s a page op id vector dists commit.PageFull t e h = (e, h)
-enters s a page op id vector dists (commit.Done number) t e h = (e, h)
-
 -- an update more in the log is its maker's, and no other's
 pub made_more : (log : List LogEvent) (a op : ℕ) (u : Update) (t : ℕ) → made_by t (log ++ Made a op u ∷ []) ≡ made_by t log ++ cond (a == t) (record { session = a; op = op; update = u } ∷ []) []
 made_more log a op u t = ap (filter (λ (m : Entered). m.session == t)) (entered-append log (Made a op u ∷ [])) ∙ filter-append (λ (m : Entered). m.session == t) (entered log) (record { session = a; op = op; update = u } ∷ [])
@@ -96,54 +78,3 @@ made_mine log a op u = made_more log a op u a ∙ ap (λ b. made_by a log ++ con
 
 pub made_others : (log : List LogEvent) (a op : ℕ) (u : Update) (m : ℕ) → m ≢ a → made_by m (log ++ Made a op u ∷ []) ≡ made_by m log
 made_others log a op u m apart = made_more log a op u m ∙ ap (λ z. made_by m log ++ cond z (record { session = a; op = op; update = u } ∷ []) []) (ne_eqb a m (λ one. apart (sym one))) ∙ append-nil (made_by m log)
-
--- the entry that is put in is one that the event may put in
-module _ (c : Core) (a : ℕ) (known : a < length c.actors.items) (k : Kept (state_of c)) (row : ActorRow) (at : row ≡ get_or c.actors.items a row) (page : ℕ) (node : Node) (here : node_at (state_of c).pages page ≡ Some node)
-    (id : ℕ) (e : Entry) (ready : MayInsert (view_in (state_of c) a) id e.vector e.dists.items) (small : id < 2 ^ 40) (birth : e.birth ≡ length (updates_of c.board.log) + 1) (death : e.death ≡ None)
-    (key : e.key ≡ insert_key (view_in (state_of c) a) e.dists.items id (next_number (view_in (state_of c) a))) (low : (node_in (state_of c) page).low ≤ e.key) (ends : EndsAfter (node_in (state_of c) page) 0 e.key)
-    (room : HasRoom c.board) (calm : crowded_at c.board ((grid c.board.settings).perm e.vector) ≡ false) (trimmed : Node) (trim : trimmed ≡ trim_node row.floor.updates node) (is_node : IsNode trimmed) (other : item_count trimmed ≢ 32) where
-  it : node_in (state_of c) page ≡ node
-  it = ap node_or_fresh here
-
-  level : node.level ≡ 0
-  level = ap (λ (n : Node). n.level) (sym it) ∙ ends.level
-
-  floor : (actor_in (state_of c) a).floor.updates ≡ row.floor.updates
-  floor = ap (λ (r : Actor). r.floor.updates) (row_is c a known row at)
-
-  pub may_enter : CanInsert (state_of c) (actor_in (state_of c) a) id page node (shard_at c.shards.items (home id)).rows e
-  may_enter = can_insert (state_of c) k a (actor_in (state_of c) a) (there c a known) page node here id e ready small birth death
-      (key ∙ ap (insert_key (view_in (state_of c) a) e.dists.items id) (sym birth))
-      (subst (λ n. (node_in (state_of c) page).low ≤ n) key low)
-      (subst (λ n. EndsAfter n 0 (insert_key (view_in (state_of c) a) e.dists.items id (next_number (view_in (state_of c) a)))) it (subst (EndsAfter (node_in (state_of c) page) 0) key ends))
-      room calm
-      (subst (λ (n : ℕ). n < 32) (ap (λ (n : Node). length n.entries) trim ∙ ap (λ f. length (without_dead f node.entries)) (sym floor)) (few_entries trimmed is_node (ap (λ (n : Node). n.level) trim ∙ level) other))
-
-  pub none_there : has_entry e.key trimmed.entries ≡ false
-  none_there = ap (λ (n : Node). has_entry e.key n.entries) trim ∙ insert_absent (state_of c) k a (actor_in (state_of c) a) (there c a known) page node here id (shard_at c.shards.items (home id)).rows e may_enter row.floor.updates
-
-  -- the board, the shard and the page are changed together
-  pub is_entered : (op : ℕ) (b : BoardState) → b ≡ with_update a op (Insert id e.vector) c.board → (was now : Shard) → was ≡ get_or c.shards.items (home id) was
-      → now ≡ held_by was.holder (with_record (record { id = id; birth = e.birth; dists = e.dists.items }) was.rows) → (put_in : Node) → put_in ≡ record trimmed { entries = put entry_cmp e trimmed.entries }
-      → (new : ActorRow) → new ≡ record row { seen = length b.log; reserved = false; reserved_here = false; page = page }
-      → Does (state_of c) a (insert op id page (node_in (state_of c) page) (rows_at (state_of c) (home id)) e)
-      (record { board = b; shards = set c.shards.items (home id) now; pages = set c.pages.items page (Some put_in); actors = actors_of b.settings b.log 0 (set c.actors.items a new) })
-  is_entered op b is was now at_home kept_now put_in put_is new e_row =
-      let to = with_update a op (Insert id e.vector) c.board in
-      let r = actor_in (state_of c) a in
-      let mine = (suits c a known k).holds.shard (home id) ready.shard in
-      let low_shard : home id < length c.shards.items = let many = k.sound.sixteen in omega (arith, mine.0) in
-      let same : was ≡ shard_at c.shards.items (home id) = read_is c.shards.items (home id) no_shard was low_shard at_home in
-      let y : ShardRecord = record { id = id; birth = e.birth; dists = e.dists.items } in
-      let shard_is : now ≡ held_by (Some a) (with_record y (shard_at c.shards.items (home id)).rows) =
-      kept_now ∙ ap (λ (x : Shard). held_by x.holder (with_record y x.rows)) same ∙ ap (λ o. held_by o (with_record y (shard_at c.shards.items (home id)).rows)) mine.1 in
-      let node_is : put_in ≡ put_entry r.floor.updates e (node_in (state_of c) page) =
-      put_is ∙ ap (λ (n : Node). record n { entries = put entry_cmp e n.entries }) trim ∙ ap (λ f. put_entry f e node) (sym floor) ∙ ap (put_entry r.floor.updates e) (sym it) in
-      record {
-        can = subst (λ n. CanInsert (state_of c) r id page n (shard_at c.shards.items (home id)).rows e) (sym it) may_enter;
-        is = comes_to c a known row at b to is refl (made_others c.board.log a op (Insert id e.vector)) (set c.shards.items (home id) now) (set c.shards.items (home id) (held_by (Some a) (with_record y (rows_at (state_of c) (home id)))))
-            (ap (set c.shards.items (home id)) shard_is) (set c.pages.items page (Some put_in)) (set c.pages.items page (Some (put_entry r.floor.updates e (node_in (state_of c) page)))) (ap (λ n. set c.pages.items page (Some n)) node_is)
-            new (committed to a op (Insert id e.vector) page)
-            (ap (actor_of to.settings to.log a) e_row ∙ ap (λ (z : BoardState). actor_of to.settings to.log a (record row { seen = length z.log; reserved = false; reserved_here = false; page = page })) is
-            ∙ ap (λ own. record (actor_of to.settings to.log a (record row { seen = length to.log; reserved = false; reserved_here = false; page = page })) { own = own }) (made_mine c.board.log a op (Insert id e.vector)));
-      }

@@ -42,5 +42,9 @@ pub mod DeleteSection
 pub mod RouteSections
 pub mod GatherSections
 pub mod PublishSections
-pub mod CopySections
 pub mod CopyAnswers
+pub mod PageTurns
+pub mod BoardTurns
+pub mod CopyRows
+pub mod InsertRow
+pub mod InsertTurns

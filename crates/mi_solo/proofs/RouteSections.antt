@@ -74,27 +74,6 @@ module _ (c : Core) (a : ℕ) (known : a < length c.actors.items) (k : Kept (sta
               (ap (actor_of c.board.settings c.board.log a) e ∙ log_of c.board.settings c.board.log b to becomes a (λ m. record row { seen = m; hand = held }) ∙ ap (λ h. actor_of c.board.settings c.board.log a (record row { seen = length c.board.log; hand = h })) held_is);
         }
 
-    -- the page is halved, and its upper half is on the page in hand
-    pub page_is_halved : (page : ℕ) (node : Node) → node ≡ node_in (state_of c) page → Can (state_of c) a (actor_in (state_of c) a) (split_page page (node_in (state_of c) page))
-        → (lower upper : Node) → lower ≡ lower_half p node → upper ≡ upper_half node
-        → (held : InHand) → held ≡ record { fresh = None; owed = row.hand.owed ++ record { level = node.level + 1; key = middle_key node; child = p } ∷ [] } → (new : ActorRow) → new ≡ record row { page = page; hand = held }
-        → Does (state_of c) a (split_page page (node_in (state_of c) page)) (record { board = c.board; shards = c.shards.items; pages = set (set c.pages.items page (Some lower)) p (Some upper); actors = actors_of c.board.settings c.board.log 0 (set c.actors.items a new) })
-    page_is_halved page node same can lower upper lower_is upper_is held held_is new e =
-        let f = hand (actor_in (state_of c) a).fresh in
-        let n : p ≡ f = ap hand (sym has_fresh) in
-        let it = node_in (state_of c) page in
-        record {
-          can = can;
-          is = comes_to c a known row at c.board c.board refl refl (λ m o. refl) c.shards.items c.shards.items refl
-              (set (set c.pages.items page (Some lower)) p (Some upper)) (set (set c.pages.items page (Some (lower_half f it))) f (Some (upper_half it)))
-              (ap (λ x. set (set c.pages.items page (Some x)) p (Some upper)) lower_is ∙ ap (λ x. set (set c.pages.items page (Some (lower_half p node))) p (Some x)) upper_is
-              ∙ ap (λ x. set (set c.pages.items page (Some (lower_half p x))) p (Some (upper_half x))) same ∙ ap (λ m. set (set c.pages.items page (Some (lower_half m it))) m (Some (upper_half it))) n)
-              new (λ (r : Actor). record r { page = page; fresh = None; owed = r.owed ++ record { level = it.level + 1; key = middle_key it; child = f } ∷ [] })
-              (ap (actor_of c.board.settings c.board.log a) e ∙ ap (λ h. actor_of c.board.settings c.board.log a (record row { page = page; hand = h })) (held_is
-              ∙ ap (λ x. record { fresh = None; owed = row.hand.owed ++ record { level = x.level + 1; key = middle_key x; child = p } ∷ [] }) same
-              ∙ ap (λ m. record { fresh = None; owed = row.hand.owed ++ record { level = it.level + 1; key = middle_key it; child = m } ∷ [] }) n));
-        }
-
 -- a linked page that was read
 module _ (c : Core) (a : ℕ) (known : a < length c.actors.items) (row : ActorRow) (at : row ≡ get_or c.actors.items a row)
     (page : ℕ) (linked : IsTrue (is_linked (state_of c) page)) (read : Option Node) (was : read ≡ get_or c.pages.items page read) (node : Node) (is : read ≡ Some node) where
@@ -122,32 +101,3 @@ module _ (c : Core) (a : ℕ) (known : a < length c.actors.items) (row : ActorRo
       is = comes_to c a known row at c.board c.board refl refl (λ m n. refl) c.shards.items c.shards.items refl (set c.pages.items page (Some left)) c.pages.items (ap (λ n. set c.pages.items page (Some n)) stays ∙ back)
           new (noted page) (ap (actor_of c.board.settings c.board.log a) e);
     }
-
-    -- the page is trimmed, if it is a leaf page
-    pub is_trimmed : (trimmed : Node) → trimmed ≡ trim_leaf row.floor.updates node
-        → Does (state_of c) a (trims_leaf page (node_in (state_of c) page)) (record { board = c.board; shards = c.shards.items; pages = set c.pages.items page (Some trimmed); actors = actors_of c.board.settings c.board.log 0 (set c.actors.items a new) })
-    is_trimmed trimmed t =
-        let f = (actor_in (state_of c) a).floor.updates in
-        let n = node_in (state_of c) page in
-        let P : Bool → Type 0 = λ b. (n.level == 0) ≡ b → Does (state_of c) a (cond b (trim page n) (visit page)) (record { board = c.board; shards = c.shards.items; pages = set c.pages.items page (Some trimmed); actors = actors_of c.board.settings c.board.log 0 (set c.actors.items a new) }) in
-        (elim (n.level == 0) as P [
-          | true ↦ λ leaf. record {
-            can = record { there = here ∙ ap Some (sym same); level = eqb-true n.level 0 leaf };
-            is = comes_to c a known row at c.board c.board refl refl (λ m o. refl) c.shards.items c.shards.items refl (set c.pages.items page (Some trimmed)) (set c.pages.items page (Some (trim_node f n)))
-                (ap (λ x. set c.pages.items page (Some x)) (trim_seen trimmed t ∙ ap (λ b. cond b (trim_node f n) n) leaf)) new (noted page) (ap (actor_of c.board.settings c.board.log a) e);
-          }
-          | false ↦ λ inner. is_visited trimmed (trim_seen trimmed t ∙ ap (λ b. cond b (trim_node f n) n) inner ∙ same)
-        ]) refl
-
-  -- the page has the route, which is owed no more
-  pub is_posted : (key child : ℕ) → MayPost (state_of c) node key child → (posted : Node) → posted ≡ post_route key child node → (held : InHand) → held ≡ record row.hand { owed = paid child row.hand.owed }
-      → (new : ActorRow) → new ≡ record row { page = page; hand = held }
-      → Does (state_of c) a (post page (node_in (state_of c) page) key child) (record { board = c.board; shards = c.shards.items; pages = set c.pages.items page (Some posted); actors = actors_of c.board.settings c.board.log 0 (set c.actors.items a new) })
-  is_posted key child may posted posted_is held held_is new e = record {
-    can = (here ∙ ap Some (sym same), subst (λ n. MayPost (state_of c) n key child) (sym same) may);
-    is = comes_to c a known row at c.board c.board refl refl (λ m n. refl) c.shards.items c.shards.items refl
-        (set c.pages.items page (Some posted)) (set c.pages.items page (Some (post_route key child (node_in (state_of c) page))))
-        (ap (λ n. set c.pages.items page (Some n)) (posted_is ∙ ap (post_route key child) (sym same)))
-        new (λ (r : Actor). record r { page = page; owed = paid child r.owed })
-        (ap (actor_of c.board.settings c.board.log a) e ∙ ap (λ h. actor_of c.board.settings c.board.log a (record row { page = page; hand = h })) held_is);
-  }

@@ -1,34 +1,57 @@
 -- The event that each section of a splitter is, by its answer, and what the trait tells of it.
-use Rattle.std.proofs.Common.{◌≡◌, ◌∙◌, ℕ, Bool, IsTrue, ap, subst, sym, Some, Result, Ok, Err}
+use Rattle.std.proofs.Common.{◌≡◌, ◌≤◌, ◌∙◌, ℕ, Bool, IsTrue, ap, refl, subst, sym, Some, Result, Ok, Err}
+use Rattle.std.specs.Prelude.{IsSome}
+use Rattle.std.proofs.lemmas.Option.{get_or_from_slice_get}
 use Rattle.mi_base.specs.declared.refusals.NoMemory.{NoMemory}
+use Rattle.mi_core.specs.Actors.{made_by}
+use Rattle.mi_core.specs.Events.{IsFree, first_actor}
 use Rattle.mi_core.specs.Events.Event.{give_up as give_up_event}
 use Rattle.mi_core.specs.Kept.{Kept}
 use Rattle.mi_base.specs.declared.records.Position.{Position}
 use Rattle.mi_base.specs.History.{end_of}
+use Rattle.mi_core.specs.Pages.{node_or_fresh}
 use Rattle.mi_core.specs.State.{State, node_at}
+use Rattle.mi_entries.specs.Actors.{Actor}
 use Rattle.mi_page.specs.Nodes.{Node}
 use Rattle.mi_tree.specs.declared.answers.Work.{Work}
 use Rattle.mi_tree.specs.declared.answers.Work.TheVariants as work
 use Rattle.mi_world.specs.declared.answers.Visit.{Visit}
 use Rattle.mi_world.specs.declared.answers.Visit.TheVariants.{Down, Read, Right}
 use Rattle.mi_world.specs.Boards.{GivesWork}
+use Rattle.mi_world.specs.LeafKeys.{greatest_key}
+use Rattle.mi_world.specs.View.{prefix_or}
 use Rattle.mi_world.specs.Splits.{Gathers, GivesUp, Publishes, Sweeps}
 use Rattle.mi_solo.specs.declared.cores.Core.{Core}
-use Rattle.mi_solo.specs.States.{Does, IsGoing, actor_in, is_linked, node_in, state_of}
+use Rattle.mi_solo.specs.BoardRows.{WorksRow}
+use Rattle.mi_solo.specs.OnBoards.{OnBoard}
+use Rattle.mi_solo.specs.LeafRows.{SweepsRow, swept_mark}
+use Rattle.mi_solo.specs.OnPages.{OnPage}
+use Rattle.mi_solo.specs.Seeking.{PointsDown, PointsRight, ReadsOn}
+use Rattle.mi_solo.specs.States.{Does, IsGoing, actor_in, is_linked, node_in, state_of, view_in}
+use Rattle.mi_solo.specs.Viewing.{swept_leaf, swept_to}
 use Rattle.mi_solo.specs.Solos.{view_of}
 use Rattle.mi_solo.specs.WorkSections as made
+use Rattle.mi_solo.proofs.BoardTurns.{board_does, work_event, work_is}
 use Rattle.mi_solo.proofs.CoreLemmas.{there}
 use Rattle.mi_solo.proofs.GatherEvents.{gathers_down, gathers_memory, gathers_on, gathers_right}
 use Rattle.mi_solo.proofs.PageAnswers.{page_is}
+use Rattle.mi_solo.proofs.PageTurns.{page_does}
 use Rattle.mi_solo.proofs.SoloLemmas.{Answered, after_view, answered, now, solo_of}
+use Rattle.mi_solo.proofs.SweepSections.{last_swept, row_sweeps, sweep_event, sweep_is}
 use Rattle.mi_solo.proofs.SweepEvents.{sweeps_down, sweeps_on, sweeps_right}
 use Rattle.mi_solo.proofs.WorkEvents.{gives_nothing, gives_split, gives_sweep, gives_up, publishes, publishes_none}
 
 module _ (c d : Core) (a : ℕ) (k : Kept (state_of c)) (g : IsGoing c a) where
-  pub answer_work : (r : Work) → made.GivesWork (state_of c) a r (state_of d) → Answered c d a (λ v w. GivesWork v w r)
-  answer_work (work.Sweep p) x = answered c d a k g x tt ((gives_sweep p) (state_of c) k a (actor_in (state_of c) a) _ (there c a g.known) g.going x.can (now c d a k g x))
-  answer_work (work.Split leaf) x = answered c d a k g x.0 tt ((gives_split leaf) (state_of c) k a (actor_in (state_of c) a) _ (there c a g.known) g.going x.0.can (now c d a k g x.0) x.1)
-  answer_work work.Idle x = answered c d a k g x tt (gives_nothing (state_of c) k a (actor_in (state_of c) a) _ (there c a g.known) g.going x.can (now c d a k g x))
+  pub answer_work : IsFree (actor_in (state_of c) a) → (r : Work) → OnBoard (state_of c) a (WorksRow a r) (state_of d) → Answered c d a (λ v w. GivesWork v w r)
+  answer_work free r x =
+      let s = state_of c in
+      let its = get_or_from_slice_get s.actors a _ first_actor x.row_is in
+      go r x.does (board_does s a (state_of d) x (work_event r) (work_is s a x.row x.made x.board (subst IsFree its free) r x.does))
+    where
+      go : (r : Work) → WorksRow a r c.board x.row x.board x.made → Does (state_of c) a (work_event r) (state_of d) → Answered c d a (λ v w. GivesWork v w r)
+      go (work.Sweep p) h y = answered c d a k g y tt (gives_sweep p (state_of c) k a (actor_in (state_of c) a) _ (there c a g.known) g.going y.can (now c d a k g y))
+      go (work.Split leaf) h y = answered c d a k g y tt (gives_split leaf (state_of c) k a (actor_in (state_of c) a) _ (there c a g.known) g.going y.can (now c d a k g y) h.0.1.0)
+      go work.Idle h y = answered c d a k g y tt (gives_nothing (state_of c) k a (actor_in (state_of c) a) _ (there c a g.known) g.going y.can (now c d a k g y))
 
   pub answer_up : (pages : Bool) → Does (state_of c) a (give_up_event pages) (state_of d) → Answered c d a (λ v w. GivesUp v w pages)
   answer_up pages x = answered c d a k g x tt ((gives_up pages) (state_of c) k a (actor_in (state_of c) a) _ (there c a g.known) g.going x.can (now c d a k g x))
@@ -39,17 +62,32 @@ module _ (c d : Core) (a : ℕ) (k : Kept (state_of c)) (g : IsGoing c a) where
       (publishes (state_of c) k a (actor_in (state_of c) a) _ (there c a g.known) g.going x.0.can (now c d a k g x.0)))
   answer_publish (Err e) x = answered c d a k g x tt (publishes_none e (state_of c) k a (actor_in (state_of c) a) _ (there c a g.known) g.going x.can (now c d a k g x))
 
+  -- a page is swept
+  pub answer_sweep : (page : ℕ) → IsSome (view_in (state_of c) a).sweep → (node_in (state_of c) page).low ≤ (view_in (state_of c) a).swept → (r : Visit)
+      → OnPage (state_of c) a page (SweepsRow c.board.settings page r) (state_of d) → Answered c d a (λ v w. Sweeps v w page r)
+  answer_sweep page given low r x =
+      let s = state_of c in
+      let C = c.board.settings in
+      let its = get_or_from_slice_get s.actors a _ first_actor x.row_is in
+      let works = row_sweeps s k a _ x.row_is x.row refl (subst (λ (q : Actor). IsSome (swept_leaf q.sweep)) its given) in
+      let from : x.was.low ≤ swept_mark x.row = subst (λ (q : Actor). x.was.low ≤ swept_to q.sweep) its (subst (λ (m : Node). m.low ≤ (view_in s a).swept) (ap node_or_fresh x.there) low) in
+      let y = page_does s a page (state_of d) x (sweep_event page x.was r) (sweep_is s a page x.was x.new x.there C (made_by a s.board.log) x.row x.made refl works from r x.does) in
+      go r x.does y
+    where
+      go : (r : Visit) → SweepsRow c.board.settings page r x.was x.row x.new x.made → Does (state_of c) a (sweep_event page x.was r) (state_of d) → Answered c d a (λ v w. Sweeps v w page r)
+      go (Down p) h y = answered c d a k g y tt (sweeps_down page x.was p (state_of c) k a (actor_in (state_of c) a) _ (there c a g.known) g.going y.can (now c d a k g y) x.there
+          (subst (λ (q : Actor). PointsDown x.was 0 (swept_to q.sweep) p) (sym (get_or_from_slice_get (state_of c).actors a _ first_actor x.row_is)) h.0))
+      go (Right p) h y = answered c d a k g y tt (sweeps_right page x.was p (state_of c) k a (actor_in (state_of c) a) _ (there c a g.known) g.going y.can (now c d a k g y) x.there
+          (subst (λ (q : Actor). PointsRight x.was 0 (swept_to q.sweep) p) (sym (get_or_from_slice_get (state_of c).actors a _ first_actor x.row_is)) h.0))
+      go (Read next) h y = answered c d a k g y tt (sweeps_on page x.was next (state_of c) k a (actor_in (state_of c) a) _ (there c a g.known) g.going y.can (now c d a k g y)
+          (subst (λ to. ReadsOn x.was to next) (last_swept c.board.settings x.row ∙ ap (λ (q : Actor). greatest_key c.board.settings (prefix_or (swept_leaf q.sweep))) (sym (get_or_from_slice_get (state_of c).actors a _ first_actor x.row_is))) h.0))
+
   module _ (page : ℕ) (linked : IsTrue (is_linked (state_of c) page)) where
     abbrev n : Node
     n = node_in (state_of c) page
 
     here : node_at (state_of c).pages page ≡ Some (node_in (state_of c) page)
     here = page_is (state_of c) page linked
-
-    pub answer_sweep : (r : Visit) → made.Sweeps (state_of c) a page r (state_of d) → Answered c d a (λ v w. Sweeps v w page r)
-    answer_sweep (Down p) x = answered c d a k g x.0 tt ((sweeps_down page n p) (state_of c) k a (actor_in (state_of c) a) _ (there c a g.known) g.going x.0.can (now c d a k g x.0) here x.1)
-    answer_sweep (Right p) x = answered c d a k g x.0 tt ((sweeps_right page n p) (state_of c) k a (actor_in (state_of c) a) _ (there c a g.known) g.going x.0.can (now c d a k g x.0) here x.1)
-    answer_sweep (Read next) x = answered c d a k g x.0 tt ((sweeps_on page n next) (state_of c) k a (actor_in (state_of c) a) _ (there c a g.known) g.going x.0.can (now c d a k g x.0) x.1)
 
     pub answer_gather : (r : Result Visit NoMemory) → made.Gathers (state_of c) a page r (state_of d) → Answered c d a (λ v w. Gathers v w page r)
     answer_gather (Ok (Down p)) x = answered c d a k g x.0 tt (gathers_down page n p (state_of c) k a (actor_in (state_of c) a) _ (there c a g.known) g.going x.0.can (now c d a k g x.0) here x.1)

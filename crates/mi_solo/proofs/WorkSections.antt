@@ -22,7 +22,6 @@ use Rattle.mi_tree.specs.declared.outcomes.Leaf.{Leaf}
 use Rattle.mi_solo.specs.declared.cores.Core.{Core}
 use Rattle.mi_solo.specs.declared.rows.ActorRow.{ActorRow}
 use Rattle.mi_solo.specs.States.{Does, actor_in, actor_of, actors_of, state_of, view_in}
-use Rattle.mi_solo.specs.WorkSections.{GivesWork}
 use Rattle.mi_world.specs.Splits.{copied_in}
 use Rattle.mi_solo.proofs.CoreLemmas.{comes_to, log_of, there}
 use Rattle.mi_solo.proofs.GatheredLemmas.{may_give_up}
@@ -39,50 +38,6 @@ retired_fits c k p e =
 module _ (c : Core) (a : ℕ) (known : a < length c.actors.items) (row : ActorRow) (at : row ≡ get_or c.actors.items a row) (b : BoardState) (new : ActorRow) where
   abbrev then : State
   then = record { board = b; shards = c.shards.items; pages = c.pages.items; actors = actors_of b.settings b.log 0 (set c.actors.items a new) }
-
-  module _ (free : (actor_in (state_of c) a).claim ≡ None) (idle : (actor_in (state_of c) a).sweep ≡ None) (r : Work) (told : board.GivesWork c.board a r b) (before : Look) (was : before ≡ look_of c.board) where
-    both_free : IsFree (actor_in (state_of c) a)
-    both_free = record { claim = free; sweep = idle }
-
-    pub sweep_given : (p : List ℕ) → r ≡ work.Sweep p → (mark : ℕ) → mark ≡ cell_start (grid b.settings) p
-        → new ≡ record row { seen = length b.log; floor = before.floor; sweep = Some (record { leaf = p; mark = mark }) } → GivesWork (state_of c) a r then
-    sweep_given p is mark first e =
-        let its = subst (λ x. board.GivesWork c.board a x b) is told in
-        let to : BoardState = record c.board { retired = drop 1 c.board.retired } in
-        let from : mark ≡ (cell_range (grid c.board.settings) p).from = first ∙ ap (λ (z : BoardState). cell_start (grid z.settings) p) its.1 in
-        subst (λ x. GivesWork (state_of c) a x then) (sym is) (record {
-          can = (both_free, its.0);
-          is = comes_to c a known row at b to its.1 refl (λ m n. refl) c.shards.items c.shards.items refl c.pages.items c.pages.items refl new
-              (λ (x : Actor). record (looked c.board x) { sweep = Some (record { leaf = p; mark = (cell_range (grid c.board.settings) p).from }) })
-              (ap (actor_of c.board.settings c.board.log a) e ∙ log_of c.board.settings c.board.log b to its.1 a (λ n. record row { seen = n; floor = before.floor; sweep = Some (record { leaf = p; mark = mark }) })
-              ∙ ap (λ (l : Look). actor_of c.board.settings c.board.log a (record row { seen = length c.board.log; floor = l.floor; sweep = Some (record { leaf = p; mark = mark }) })) was
-              ∙ ap (λ m. record (looked c.board (actor_of c.board.settings c.board.log a row)) { sweep = Some (record { leaf = p; mark = m }) }) from);
-        })
-
-    pub split_given : (leaf : Leaf) → r ≡ work.Split leaf → new ≡ record row { seen = length b.log; floor = before.floor; claim = Some leaf.prefix } → GivesWork (state_of c) a r then
-    split_given leaf is e =
-        let its = subst (λ x. board.GivesWork c.board a x b) is told in
-        let to = with_actor (with_claim leaf.prefix) a c.board in
-        subst (λ x. GivesWork (state_of c) a x then) (sym is) (
-          record {
-            can = (both_free, its.0, leaf, its.1.0, refl);
-            is = comes_to c a known row at b to its.1.1 refl (λ m n. refl) c.shards.items c.shards.items refl c.pages.items c.pages.items refl new
-                (λ (x : Actor). record (looked c.board x) { claim = Some leaf.prefix })
-                (ap (actor_of c.board.settings c.board.log a) e ∙ log_of c.board.settings c.board.log b to its.1.1 a (λ n. record row { seen = n; floor = before.floor; claim = Some leaf.prefix })
-                ∙ ap (λ (l : Look). actor_of c.board.settings c.board.log a (record row { seen = length c.board.log; floor = l.floor; claim = Some leaf.prefix })) was);
-          },
-          its.1.0,
-        )
-
-    pub nothing_given : r ≡ work.Idle → new ≡ record row { seen = length b.log; floor = before.floor } → GivesWork (state_of c) a r then
-    nothing_given is e =
-        let its = subst (λ x. board.GivesWork c.board a x b) is told in
-        subst (λ x. GivesWork (state_of c) a x then) (sym is) (record {
-          can = (both_free, its.0, its.1.0);
-          is = comes_to c a known row at b c.board its.1.1 refl (λ m n. refl) c.shards.items c.shards.items refl c.pages.items c.pages.items refl new (looked c.board)
-              (ap (actor_of c.board.settings c.board.log a) e ∙ log_of c.board.settings c.board.log b c.board its.1.1 a (λ n. record row { seen = n; floor = before.floor })
-              ∙ ap (λ (l : Look). actor_of c.board.settings c.board.log a (record row { seen = length c.board.log; floor = l.floor })) was);
-        })
 
   -- the split is given up
   pub given_back : Kept (state_of c) → (pages : Bool) → IsTrue (is_some (actor_in (state_of c) a).claim) → copied_in (view_in (state_of c) a) ≡ 0 → (IsTrue pages → IsTrue (view_in (state_of c) a).told)

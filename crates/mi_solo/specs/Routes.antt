@@ -1,17 +1,16 @@
--- What sections of routes do: a page is halved, a route is posted, a root grows.
-use Rattle.std.specs.Prelude.{◌≡◌, ◌≢◌, ◌<◌, ◌+◌, ◌==◌, ℕ, Bool, true, false, cond, Some}
+-- What sections of routes do: a page is halved, a root grows.
+use Rattle.std.specs.Prelude.{◌≡◌, ◌≢◌, ◌<◌, ◌+◌, ◌==◌, ℕ, Bool, true, false, cond, Some, None}
 use Rattle.mi_core.specs.Events.{Event}
-use Rattle.mi_core.specs.Events.Event.{grow, post, refuse, split_page, trim, visit}
+use Rattle.mi_core.specs.Events.Event.{grow, refuse, trim, visit}
 use Rattle.mi_core.specs.Refusals.Refusal.{grown}
-use Rattle.mi_core.specs.State.{State}
-use Rattle.mi_page.specs.Nodes.{Node, item_count, middle_key}
-use Rattle.mi_solo.specs.Seeking.{EndsAfter, PointsDown, PointsRight}
-use Rattle.mi_solo.specs.States.{Does, actor_in, node_in}
+use Rattle.mi_core.specs.State.{State, put_page}
+use Rattle.mi_page.specs.Nodes.{Node, item_count}
+use Rattle.mi_solo.specs.OnPages.{OnPage}
+use Rattle.mi_solo.specs.PageRows.{HalvesRow}
+use Rattle.mi_solo.specs.States.{Does, actor_in}
 use Rattle.mi_solo.specs.Viewing.{page_seen}
 use Rattle.mi_world.specs.declared.answers.Parted.{Parted}
 use Rattle.mi_world.specs.declared.answers.Parted.TheVariants.{Parted as HasParted, Roomy}
-use Rattle.mi_world.specs.declared.answers.Put.{Put}
-use Rattle.mi_world.specs.declared.answers.Put.TheVariants.{Done, Down, PageFull, Right}
 
 -- how many items an actor counts on a page: without the entries that are dead at its floor
 abbrev pub items_seen : State → ℕ → ℕ → ℕ
@@ -22,18 +21,20 @@ abbrev pub GrowsRoot : State → ℕ → ℕ → ℕ → ℕ → Bool → State 
 GrowsRoot s a level key child true t = Does s a (grow level key child) t
 GrowsRoot s a level key child false t = Does s a (refuse (grown level)) t × (s.board.height + 1 ≢ level)
 
--- Down, Right, PageFull, Done: each comes where none before it does
-abbrev pub PostsRoute : State → ℕ → ℕ → ℕ → ℕ → ℕ → Put → State → Type 0
-PostsRoute s a page level key child (Down p) t = Does s a (visit page) t × PointsDown (node_in s page) level key p
-PostsRoute s a page level key child (Right p) t = Does s a (visit page) t × PointsRight (node_in s page) level key p
-PostsRoute s a page level key child PageFull t = Does s a (visit page) t × EndsAfter (node_in s page) level key × (items_seen s a page ≡ 32)
-PostsRoute s a page level key child Done t = Does s a (post page (node_in s page) key child) t × EndsAfter (node_in s page) level key
-
 -- a leaf page is trimmed, and a page of routes stays as it is
 abbrev pub trims_leaf : ℕ → Node → Event
 trims_leaf page n = cond (n.level == 0) (trim page n) (visit page)
 
--- a page that is full to its actor is halved at its middle key, with the fresh page for the upper half; any other has room
+-- the lower half of a full page stays on it, and its upper half is linked as the fresh page
+pub record LinksHalf (s : State) (a page key child : ℕ) (t : State) : Type 0 where
+  pub upper : Node
+  pub between : State
+  pub halved : OnPage s a page (HalvesRow page (Some upper)) between
+  pub fresh : (actor_in s a).fresh ≡ Some child
+  pub low : key ≡ upper.low
+  pub is : t ≡ put_page child upper between
+
+-- a page that is full to its actor is halved; any other has room
 abbrev pub HalvesPage : State → ℕ → ℕ → Parted → State → Type 0
-HalvesPage s a page (HasParted key child) t = Does s a (split_page page (node_in s page)) t × (key ≡ middle_key (node_in s page)) × ((actor_in s a).fresh ≡ Some child)
-HalvesPage s a page Roomy t = Does s a (trims_leaf page (node_in s page)) t × (items_seen s a page < 32)
+HalvesPage s a page (HasParted key child) t = LinksHalf s a page key child t
+HalvesPage s a page Roomy t = OnPage s a page (HalvesRow page None) t

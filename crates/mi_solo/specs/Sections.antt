@@ -27,9 +27,6 @@ use Rattle.mi_tree.specs.Legal.{cells_of}
 use Rattle.mi_world.specs.declared.answers.ShardClaim.{ShardClaim}
 use Rattle.mi_entries.specs.Entries.{grid}
 use Rattle.mi_key.specs.declared.entries.Entry.{Entry}
-use Rattle.mi_world.specs.declared.answers.Commit.{Commit}
-use Rattle.mi_world.specs.declared.answers.Commit.TheVariants as commit
-use Rattle.mi_world.specs.Pages.{insert_key, next_number}
 use Rattle.mi_world.specs.declared.answers.Visit.{Visit}
 use Rattle.mi_world.specs.declared.answers.Visit.TheVariants.{Down, Right, Read}
 use Rattle.mi_world.specs.declared.answers.ShardClaim.TheVariants.{Taken as ShardTaken, Held as ShardHeld}
@@ -100,20 +97,3 @@ abbrev pub Trims : State → ℕ → ℕ → Visit → State → Type 0
 Trims s a page (Down p) t = ⊥
 Trims s a page (Right p) t = ⊥
 Trims s a page (Read next) t = Does s a (trim page (node_in s page)) t × TrimsTo (node_in s page) next
-
--- what comes where the key lies in the page
-abbrev pub EntersInsert : State → ℕ → ℕ → ℕ → ℕ → List ℤ → List ℕ → Commit → State → Type 0
-EntersInsert s a page op id vector dists (commit.Down p) t = ⊥
-EntersInsert s a page op id vector dists (commit.Right p) t = ⊥
-EntersInsert s a page op id vector dists (commit.Full limit) t = Does s a (refuse_at page full) t × (limit ≡ s.board.settings.updates)
-EntersInsert s a page op id vector dists commit.Crowded t = Does s a (refuse_at page (crowded vector)) t × HasRoom s.board
-EntersInsert s a page op id vector dists commit.PageFull t =
-    Does s a (refuse_at page (page_full page)) t × HasRoom s.board × (crowded_at s.board ((grid s.board.settings).perm vector) ≡ false)
-EntersInsert s a page op id vector dists (commit.Done number) t =
-    (e : Entry) × Does s a (insert op id page (node_in s page) (rows_at s (home id)) e) t × (e.vector ≡ vector) × (e.dists.items ≡ dists) × (e.birth ≡ number)
-
--- Down, Right, Full, Crowded, PageFull, Done: each comes where none before it does
-abbrev pub CommitsInsert : State → ℕ → ℕ → ℕ → ℕ → List ℤ → List ℕ → Commit → State → Type 0
-CommitsInsert s a page op id vector dists (commit.Down p) t = Does s a (visit page) t × PointsDown (node_in s page) 0 (insert_key (view_in s a) dists id 0) p
-CommitsInsert s a page op id vector dists (commit.Right p) t = Does s a (meet page) t × PointsRight (node_in s page) 0 (insert_key (view_in s a) dists id (next_number (view_in s a))) p
-CommitsInsert s a page op id vector dists answer t = EndsAfter (node_in s page) 0 (insert_key (view_in s a) dists id (next_number (view_in s a))) × EntersInsert s a page op id vector dists answer t

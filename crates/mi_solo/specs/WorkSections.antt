@@ -4,7 +4,7 @@ use Rattle.mi_base.specs.declared.refusals.NoMemory.{NoMemory}
 use Rattle.mi_base.specs.declared.records.Position.{Position}
 use Rattle.mi_base.specs.History.{end_of}
 use Rattle.mi_board.specs.Boards.{next_split}
-use Rattle.mi_core.specs.Events.Event.{gather, no_work, publish, see, start, sweep, take_split, take_sweep, visit}
+use Rattle.mi_core.specs.Events.Event.{gather, no_work, publish, see, start, take_split, take_sweep}
 use Rattle.mi_core.specs.State.{State}
 use Rattle.mi_solo.specs.Seeking.{PointsDown, PointsRight, ReadsOn}
 use Rattle.mi_solo.specs.States.{Does, node_in, view_in}
@@ -13,18 +13,6 @@ use Rattle.mi_tree.specs.declared.answers.Work.TheVariants as work
 use Rattle.mi_world.specs.declared.answers.Visit.{Visit}
 use Rattle.mi_world.specs.declared.answers.Visit.TheVariants.{Down, Right, Read}
 use Rattle.mi_world.specs.Splits.{gather_key, last_key}
-
--- a leaf to sweep, else one to split, which is the first open one, else nothing
-abbrev pub GivesWork : State → ℕ → Work → State → Type 0
-GivesWork s a (work.Sweep p) t = Does s a (take_sweep p) t
-GivesWork s a (work.Split leaf) t = Does s a (take_split leaf.prefix) t × (next_split s.board ≡ Some leaf)
-GivesWork s a work.Idle t = Does s a no_work t
-
--- the way of the key up to which the leaf is swept goes on, or the page is swept
-abbrev pub Sweeps : State → ℕ → ℕ → Visit → State → Type 0
-Sweeps s a page (Down p) t = Does s a (visit page) t × PointsDown (node_in s page) 0 (view_in s a).swept p
-Sweeps s a page (Right p) t = Does s a (visit page) t × PointsRight (node_in s page) 0 (view_in s a).swept p
-Sweeps s a page (Read next) t = Does s a (sweep page (node_in s page)) t × ReadsOn (node_in s page) (last_key (view_in s a) (view_in s a).sweep) next
 
 -- the way of the key from which the leaf is gathered goes on, memory was wanted, or the page is gathered
 abbrev pub Gathers : State → ℕ → ℕ → Result Visit NoMemory → State → Type 0

@@ -1,6 +1,7 @@
 //! The core in code, the views of a state, and what the events of the core make of them. The laws' functions do nothing.
 #![tactic(auto)]
 
+pub mod board_rows;
 mod board_sections;
 mod boards;
 pub mod cell_keys;
@@ -10,8 +11,11 @@ pub mod cores;
 mod delete_section;
 pub mod gathering;
 pub mod hands;
+pub mod insert_rows;
 mod insert_section;
 pub mod keying;
+pub mod leaf_rows;
+pub mod page_rows;
 mod page_sections;
 pub mod page_work;
 mod pages;

@@ -2,12 +2,14 @@
 ghost use Rattle.std.specs.Prelude.{◌≡◌, ◌<◌, ◌≤◌, IsSome, IsTrue};
 ghost use Rattle.mi_core.specs.Kept.{Kept};
 ghost use Rattle.mi_key.specs.declared.entries.Entry.{Entry};
-ghost use Rattle.mi_solo.specs.Sections.{Trims, Visits, updates_pinned};
+ghost use Rattle.mi_solo.specs.OnPages.{OnPage};
+ghost use Rattle.mi_solo.specs.PageRows.{TrimsRow};
+ghost use Rattle.mi_solo.specs.Sections.{Visits, updates_pinned};
 ghost use Rattle.mi_solo.specs.Seeking.{IsMeasured, offered_of};
 ghost use Rattle.mi_solo.specs.States.{IsGoing, actor_in, is_linked, node_in, state_of};
 
 use crate::cores::Core;
-use crate::page_work::sibling;
+use crate::page_rows::trim_row;
 use crate::seeking::visit_page;
 use mi_key::{Interval, Sieve};
 use mi_world::Visit;
@@ -48,16 +50,12 @@ impl Core {
         requires kept { Kept (state_of self.old) }
         requires linked { IsTrue (is_linked (state_of self.old) page) }
         requires leaf { (node_in (state_of self.old) page).level ≡ 0 }
-        ensures { Trims (state_of self.old) actor page result (state_of self.new) }
+        ensures { OnPage (state_of self.old) actor page (TrimsRow page result) (state_of self.new) }
     {
         let Some(node) = &mut self.pages[page as usize] else {
             unreachable!();
         };
         let me = &mut self.actors[actor as usize];
-        node.trim(me.floor.updates);
-        me.note(page);
-        Visit::Read {
-            next: sibling(node),
-        }
+        trim_row(node, me, page)
     }
 }

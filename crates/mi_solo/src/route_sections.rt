@@ -5,19 +5,17 @@ ghost use Rattle.mi_core.specs.Kept.{Kept};
 ghost use Rattle.mi_core.specs.State.{put_page};
 ghost use Rattle.mi_page.specs.Keys.{IsInside};
 ghost use Rattle.mi_page.specs.Nodes.{item_count};
-ghost use Rattle.mi_solo.specs.Routes.{GrowsRoot, HalvesPage, PostsRoute};
+ghost use Rattle.mi_solo.specs.OnPages.{OnPage};
+ghost use Rattle.mi_solo.specs.PageRows.{PostsRow};
+ghost use Rattle.mi_solo.specs.Routes.{GrowsRoot, HalvesPage};
 ghost use Rattle.mi_solo.specs.States.{IsGoing, actor_in, is_linked, state_of, view_in};
 ghost use Rattle.mi_world.specs.Pages.{IsChildAt, MayPost};
 
 use crate::cores::Core;
-use crate::page_work::{put_route, trim_leaf};
-use crate::seeking::{Way, seek};
+use crate::page_rows::{halve_row, post_row};
 use mi_key::Key;
 use mi_page::Page;
 use mi_world::{Parted, Put};
-
-/// How many entries or routes a page may have.
-const CAPACITY: usize = 32;
 
 impl Core {
     /// Makes the fresh page the root of this level, with the routes of the old root and of the
@@ -50,23 +48,13 @@ impl Core {
         requires kept { Kept (state_of self.old) }
         requires route { IsChildAt (view_in (state_of self.old) actor) level key child }
         requires seeks { MayPost (view_in (state_of self.old) actor) page level key }
-        ensures { PostsRoute (state_of self.old) actor page level key child result (state_of self.new) }
+        ensures { OnPage (state_of self.old) actor page (PostsRow page level key child result) (state_of self.new) }
     {
         let Some(node) = &mut self.pages[page as usize] else {
             unreachable!();
         };
         let me = &mut self.actors[actor as usize];
-        me.note(page);
-        match seek(node, level, key) {
-            Way::Down { page: next } => Put::Down { page: next },
-            Way::Right { page: next } => Put::Right { page: next },
-            Way::Here if node.len() == CAPACITY => Put::PageFull,
-            Way::Here => {
-                put_route(node, key, child);
-                me.hand.pay(child);
-                Put::Done
-            }
-        }
+        post_row(node, me, page, level, key, child)
     }
 
     /// Halves the page, if it is full: what is left of a leaf page after a trim.
@@ -81,15 +69,12 @@ impl Core {
             unreachable!();
         };
         let me = &mut self.actors[actor as usize];
-        me.note(page);
-        trim_leaf(node, me.floor.updates);
-        if node.len() < CAPACITY {
-            return Parted::Roomy;
-        }
         let Some(child) = me.hand.fresh_number() else {
             unreachable!();
         };
-        let upper = me.hand.halve(node);
+        let Some(upper) = halve_row(node, me, page) else {
+            return Parted::Roomy;
+        };
         let key = upper.low();
         self.link(child, upper);
         Parted::Parted { key, child }

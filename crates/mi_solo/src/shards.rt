@@ -17,7 +17,7 @@ use std::marker::Model;
 #[derive(Drop)]
 pub struct ShardRow {
     holder: Option<u32>,
-    rows: ShardRows,
+    pub(crate) rows: ShardRows,
 }
 
 impl Model for ShardRow {

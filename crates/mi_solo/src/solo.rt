@@ -177,6 +177,8 @@ impl World for Solo {
         vector: &Vector,
         dists: &Dists,
     ) -> Commit {
+        // That an identifier is small is known of one that is read.
+        id.get();
         self.core
             .commit_insert(self.turn, page, op, id, vector, dists)
     }

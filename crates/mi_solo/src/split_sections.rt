@@ -3,9 +3,12 @@ ghost use Rattle.std.specs.Prelude.{◌≡◌, ◌<◌, ◌≤◌, None, IsSome,
 ghost use Rattle.mi_core.specs.Events.Event.{give_up};
 ghost use Rattle.mi_core.specs.Kept.{Kept};
 ghost use Rattle.mi_solo.specs.States.{Does, IsGoing, actor_in, is_linked, node_in, state_of, view_in};
-ghost use Rattle.mi_solo.specs.WorkSections.{Gathers, GivesWork, Publishes};
+ghost use Rattle.mi_solo.specs.BoardRows.{WorksRow};
+ghost use Rattle.mi_solo.specs.OnBoards.{OnBoard};
+ghost use Rattle.mi_solo.specs.WorkSections.{Gathers, Publishes};
 ghost use Rattle.mi_world.specs.Splits.{IsGathered, MayGather, copied_in, gather_key, gathered_in};
 
+use crate::board_rows::work_row;
 use crate::cell_keys::{cell_keys, end_key, first_key};
 use crate::cores::Core;
 use crate::placing::placed_objects;
@@ -22,20 +25,10 @@ impl Core {
         requires kept { Kept (state_of self.old) }
         requires free { (actor_in (state_of self.old) actor).claim ≡ None }
         requires idle { (actor_in (state_of self.old) actor).sweep ≡ None }
-        ensures { GivesWork (state_of self.old) actor result (state_of self.new) }
+        ensures { OnBoard (state_of self.old) actor (WorksRow actor result) (state_of self.new) }
     {
-        let floor = self.board.look().floor;
-        let work = self.board.next_work(actor);
         let me = &mut self.actors[actor as usize];
-        match &work {
-            Work::Sweep { prefix } => {
-                let mark = first_key(self.board.settings(), prefix);
-                me.take_sweep(&self.board, floor, prefix, mark);
-            }
-            Work::Split { leaf } => me.take_split(&self.board, floor, &leaf.prefix),
-            Work::Idle => me.learn(&self.board, floor),
-        }
-        work
+        work_row(actor, &mut self.board, me)
     }
 
     /// Gathers what the page has of the leaf that the actor claims, if it is the next one that may have some.

@@ -12,7 +12,8 @@ use Rattle.mi_page.specs.Routes.{IsChild}
 use Rattle.mi_solo.specs.declared.rows.ActorRow.{ActorRow}
 use Rattle.mi_world.specs.declared.answers.Commit.TheVariants as commit
 use Rattle.mi_world.specs.Pages.{CommitsInsert, MayInsert, MaySeek}
-use Rattle.mi_hall.specs.CommitRows.{InsertsRow, MayEnter, giving_beside, key_in_row, next_birth}
+use Rattle.mi_solo.specs.CommitRows.{InsertsRow, MayEnter, key_in_row, next_birth}
+use Rattle.mi_hall.specs.CommitRows.{giving_beside}
 use Rattle.mi_hall.specs.Passes.{AreNear, IsPass, PassState}
 use Rattle.mi_hall.specs.Seats.{seat_view}
 use Rattle.mi_hall.proofs.AbsorbedLemmas.{kept_gone}
@@ -151,7 +152,7 @@ give_beside_page-requires-clause-does g c =
     let leaf : had.level ≡ 0 = omega (arith, c.level.ensures, c.if-level-gt0.false) in
     let small : c.args.id < 2 ^ 40 = omega (arith, c.get.ensures.small, c.get.ensures.same) in
     let near : c.get.result % 16 ≡ home c.args.id = ap home c.get.ensures.same in
-    let made = subst (λ i. InsertsRow i c.args.page c.args.op c.args.id (key_in_row b.settings c.self.inside.row c.args.dists.now.items c.args.id (next_birth b)) c.args.vector.now c.args.dists.now.items b had c.in-Some.rows c.self.inside.row c.insert_row-answer.result c.insert_row-answer.new.board c.insert_row-answer.new.node c.insert_row-answer.new.rows c.insert_row-answer.new.row) (sym p.actor_is) c.insert_row-answer.ensures in
+    let made = subst (λ i. InsertsRow i c.args.page c.args.op c.args.id (key_in_row b.settings c.self.inside.row c.args.dists.now.items c.args.id (next_birth b)) c.args.vector.now c.args.dists.now.items c.insert_row-answer.result b had c.in-Some.rows c.self.inside.row c.insert_row-answer.new.board c.insert_row-answer.new.node c.insert_row-answer.new.rows c.insert_row-answer.new.row) (sym p.actor_is) c.insert_row-answer.ensures in
     let keeps = inserts_keep c.args.latches.now.table.shared.key start c.args.page had b c.self.inside.actor c.self.inside.row c.in-Some.rows c.self.inside.told c.args.id p may.shard t.finds t.apart c.args.vector.now c.args.dists.now.items may seeks c.insert_row-answer.new.board c.insert_row-answer.new.node c.insert_row-answer.new.rows c.insert_row-answer.new.row c.args.op leaf small c.insert_row-answer.result made in
     subst (λ k. Doing c.args.latches.now.table.shared.key c.take_board-board.new.seat.me.0 (giving_beside c.take_board-board.new.seat.me.0 c.insert_row-answer.new.row c.insert_row-answer.new.board c.args.page c.insert_row-answer.new.node k c.insert_row-answer.new.rows) 0 (OfBoard c.insert_row-answer.new.board)) (sym near)
     (inserts_does c.args.latches.now.table.shared.key start c.args.page had b c.self.inside.actor c.self.inside.row c.in-Some.rows c.self.inside.told c.args.id p may.shard t.finds t.apart c.args.vector.now c.args.dists.now.items may seeks c.insert_row-answer.new.board c.insert_row-answer.new.node c.insert_row-answer.new.rows c.insert_row-answer.new.row c.args.op leaf small c.insert_row-answer.result made c.take_board-board.new.seat.me t.is d.last)
@@ -192,7 +193,7 @@ give_page-requires-2-clause-does g c =
     let leaf : had.level ≡ 0 = omega (arith, c.level.ensures, c.if-level-gt0.false) in
     let small : c.args.id < 2 ^ 40 = omega (arith, c.get.ensures.small, c.get.ensures.same) in
     let near : c.get.result % 16 ≡ home c.args.id = ap home c.get.ensures.same in
-    let made = subst (λ i. InsertsRow i c.args.page c.args.op c.args.id (key_in_row b.settings c.self.inside.row c.args.dists.now.items c.args.id (next_birth b)) c.args.vector.now c.args.dists.now.items b had c.in-Some.rows c.self.inside.row c.insert_row-answer.result c.insert_row-answer.new.board c.insert_row-answer.new.node c.insert_row-answer.new.rows c.insert_row-answer.new.row) (sym p.actor_is) c.insert_row-answer.ensures in
+    let made = subst (λ i. InsertsRow i c.args.page c.args.op c.args.id (key_in_row b.settings c.self.inside.row c.args.dists.now.items c.args.id (next_birth b)) c.args.vector.now c.args.dists.now.items c.insert_row-answer.result b had c.in-Some.rows c.self.inside.row c.insert_row-answer.new.board c.insert_row-answer.new.node c.insert_row-answer.new.rows c.insert_row-answer.new.row) (sym p.actor_is) c.insert_row-answer.ensures in
     let keeps = inserts_keep c.args.latches.now.table.shared.key start c.args.page had b c.self.inside.actor c.self.inside.row c.in-Some.rows c.self.inside.told c.args.id p may.shard t.finds t.apart c.args.vector.now c.args.dists.now.items may seeks c.insert_row-answer.new.board c.insert_row-answer.new.node c.insert_row-answer.new.rows c.insert_row-answer.new.row c.args.op leaf small c.insert_row-answer.result made in
     let gave = c.give_beside_page.ensures.gave ∙ ap (λ k. let y : Seated = (giving_beside c.take_board-board.new.seat.me.0 c.insert_row-answer.new.row c.insert_row-answer.new.board c.args.page c.insert_row-answer.new.node k c.insert_row-answer.new.rows, rest c.take_board-board.new.seat.me.1) in y) near in
     page_goes c.args.latches.now.table.shared.key start c.args.page had b c.self.inside.actor c.self.inside.row c.in-Some.rows c.self.inside.told (home c.args.id) p may.shard t.finds t.apart c.insert_row-answer.new.board c.insert_row-answer.new.node c.insert_row-answer.new.rows c.insert_row-answer.new.row keeps c.take_board-board.new.seat.me c.give_beside_page.new.seat.me t.is gave
@@ -211,7 +212,7 @@ invariant_of-self-2 g c =
     let leaf : had.level ≡ 0 = omega (arith, c.level.ensures, c.if-level-gt0.false) in
     let small : c.args.id < 2 ^ 40 = omega (arith, c.get.ensures.small, c.get.ensures.same) in
     let near : c.get.result % 16 ≡ home c.args.id = ap home c.get.ensures.same in
-    let made = subst (λ i. InsertsRow i c.args.page c.args.op c.args.id (key_in_row b.settings c.self.inside.row c.args.dists.now.items c.args.id (next_birth b)) c.args.vector.now c.args.dists.now.items b had c.in-Some.rows c.self.inside.row c.insert_row-answer.result c.insert_row-answer.new.board c.insert_row-answer.new.node c.insert_row-answer.new.rows c.insert_row-answer.new.row) (sym p.actor_is) c.insert_row-answer.ensures in
+    let made = subst (λ i. InsertsRow i c.args.page c.args.op c.args.id (key_in_row b.settings c.self.inside.row c.args.dists.now.items c.args.id (next_birth b)) c.args.vector.now c.args.dists.now.items c.insert_row-answer.result b had c.in-Some.rows c.self.inside.row c.insert_row-answer.new.board c.insert_row-answer.new.node c.insert_row-answer.new.rows c.insert_row-answer.new.row) (sym p.actor_is) c.insert_row-answer.ensures in
     let keeps = inserts_keep c.args.latches.now.table.shared.key start c.args.page had b c.self.inside.actor c.self.inside.row c.in-Some.rows c.self.inside.told c.args.id p may.shard t.finds t.apart c.args.vector.now c.args.dists.now.items may seeks c.insert_row-answer.new.board c.insert_row-answer.new.node c.insert_row-answer.new.rows c.insert_row-answer.new.row c.args.op leaf small c.insert_row-answer.result made in
     let gave = c.give_beside_page.ensures.gave ∙ ap (λ k. let y : Seated = (giving_beside c.take_board-board.new.seat.me.0 c.insert_row-answer.new.row c.insert_row-answer.new.board c.args.page c.insert_row-answer.new.node k c.insert_row-answer.new.rows, rest c.take_board-board.new.seat.me.1) in y) near in
     let ended = both_end c.args.latches.now.table.shared.key start c.args.page had b c.self.inside.actor c.self.inside.row c.in-Some.rows c.self.inside.told (home c.args.id) p may.shard t.finds t.apart c.insert_row-answer.new.board c.insert_row-answer.new.node c.insert_row-answer.new.rows c.insert_row-answer.new.row c.take_board-board.new.seat.me c.give_beside_page.new.seat.me c.give_page-2.new.seat.me t.is gave c.give_page-2.ensures.gave in
@@ -240,7 +241,7 @@ returns-clause-told g c =
     let leaf : had.level ≡ 0 = omega (arith, c.level.ensures, c.if-level-gt0.false) in
     let small : c.args.id < 2 ^ 40 = omega (arith, c.get.ensures.small, c.get.ensures.same) in
     let near : c.get.result % 16 ≡ home c.args.id = ap home c.get.ensures.same in
-    let made = subst (λ i. InsertsRow i c.args.page c.args.op c.args.id (key_in_row b.settings c.self.inside.row c.args.dists.now.items c.args.id (next_birth b)) c.args.vector.now c.args.dists.now.items b had c.in-Some.rows c.self.inside.row c.insert_row-answer.result c.insert_row-answer.new.board c.insert_row-answer.new.node c.insert_row-answer.new.rows c.insert_row-answer.new.row) (sym p.actor_is) c.insert_row-answer.ensures in
+    let made = subst (λ i. InsertsRow i c.args.page c.args.op c.args.id (key_in_row b.settings c.self.inside.row c.args.dists.now.items c.args.id (next_birth b)) c.args.vector.now c.args.dists.now.items c.insert_row-answer.result b had c.in-Some.rows c.self.inside.row c.insert_row-answer.new.board c.insert_row-answer.new.node c.insert_row-answer.new.rows c.insert_row-answer.new.row) (sym p.actor_is) c.insert_row-answer.ensures in
     let keeps = inserts_keep c.args.latches.now.table.shared.key start c.args.page had b c.self.inside.actor c.self.inside.row c.in-Some.rows c.self.inside.told c.args.id p may.shard t.finds t.apart c.args.vector.now c.args.dists.now.items may seeks c.insert_row-answer.new.board c.insert_row-answer.new.node c.insert_row-answer.new.rows c.insert_row-answer.new.row c.args.op leaf small c.insert_row-answer.result made in
     let gave = c.give_beside_page.ensures.gave ∙ ap (λ k. let y : Seated = (giving_beside c.take_board-board.new.seat.me.0 c.insert_row-answer.new.row c.insert_row-answer.new.board c.args.page c.insert_row-answer.new.node k c.insert_row-answer.new.rows, rest c.take_board-board.new.seat.me.1) in y) near in
     let ended = both_end c.args.latches.now.table.shared.key start c.args.page had b c.self.inside.actor c.self.inside.row c.in-Some.rows c.self.inside.told (home c.args.id) p may.shard t.finds t.apart c.insert_row-answer.new.board c.insert_row-answer.new.node c.insert_row-answer.new.rows c.insert_row-answer.new.row c.take_board-board.new.seat.me c.give_beside_page.new.seat.me c.give_page-2.new.seat.me t.is gave c.give_page-2.ensures.gave in

@@ -2,11 +2,11 @@ use Rattle.std.proofs.Common.{◌≡◌, ◌≤◌, ◌∙◌, ap, false, subst,
 use Rattle.atomic_table.specs.Seated.{TableId}
 use Rattle.mi_base.specs.Configuration.{Configuration}
 use Rattle.mi_page.specs.Entries.{has_entry, without_dead}
-use Rattle.mi_hall.specs.LeafRows.{CopiesRow, IsSplitting, copied_by, copy_key}
+use Rattle.mi_solo.specs.LeafRows.{CopiesRow, IsSplitting, copied_by, copy_key}
 use Rattle.mi_hall.specs.Passes.{AreNear}
 use Rattle.mi_hall.proofs.AbsorbedLemmas.{kept_gone}
 use Rattle.mi_hall.proofs.CopyCalls.{copies_does, copies_told, copy_low, copy_more, copy_not_there, copy_works}
-use Rattle.mi_hall.proofs.CopyRows.{copies_hand, copies_pin, copies_shard}
+use Rattle.mi_solo.proofs.CopyRows.{copies_hand, copies_pin, copies_shard}
 use Rattle.mi_hall.proofs.PassLemmas.{given_at, turned_cells, word_stays}
 use Rattle.mi_hall.proofs.PageSection.{named_before, named_here, sibling_here, turned_near, turned_pass}
 use Rattle.mi_hall.proofs.passes.Pass.copy_in.Goals as goal
@@ -54,7 +54,7 @@ give_page-requires-clause-last g c = (_, c.take_page-node.ensures.last)
 pub give_page-requires-clause-does : goal.give_page-requires-clause-does
 give_page-requires-clause-does g c =
     let e = c.take_page-node.ensures in
-    let x = subst (λ (s : Configuration). CopiesRow s c.args.page c.take_page-node.result c.self.inside.row c.copy_row-answer.result c.copy_row-answer.new.node c.copy_row-answer.new.row) c.args.latches.now.same c.copy_row-answer.ensures in
+    let x = subst (λ (s : Configuration). CopiesRow s c.args.page c.copy_row-answer.result c.take_page-node.result c.self.inside.row c.copy_row-answer.new.node c.copy_row-answer.new.row) c.args.latches.now.same c.copy_row-answer.ensures in
     copies_does _ _ _ _ _ _ _ _ _ c.self.invariant.0 e.took e.told _ _ c.self.view_is c.requires.leaf.splitting c.requires.named c.requires.leaf c.requires.more c.requires.low _ _ c.copy_row-answer.result x e.last
 
 pub invariant_of-self : goal.invariant_of-self
@@ -76,5 +76,5 @@ invariant_of-self g c =
 pub returns-clause-told : goal.returns-clause-told
 returns-clause-told g c =
     let e = c.take_page-node.ensures in
-    let x = subst (λ (s : Configuration). CopiesRow s c.args.page c.take_page-node.result c.self.inside.row c.copy_row-answer.result c.copy_row-answer.new.node c.copy_row-answer.new.row) c.args.latches.now.same c.copy_row-answer.ensures in
+    let x = subst (λ (s : Configuration). CopiesRow s c.args.page c.copy_row-answer.result c.take_page-node.result c.self.inside.row c.copy_row-answer.new.node c.copy_row-answer.new.row) c.args.latches.now.same c.copy_row-answer.ensures in
     copies_told _ _ _ _ _ _ _ _ _ c.self.invariant.0 e.took e.told _ _ c.self.view_is c.requires.leaf.splitting c.requires.named c.requires.leaf c.requires.more c.requires.low _ _ _ c.give_page.ensures.gave c.copy_row-answer.result x

@@ -5,7 +5,7 @@ use Rattle.mi_latch.specs.PageSteps.{halves_named}
 use Rattle.mi_latch.specs.Views.{IsOne, Seated}
 use Rattle.mi_world.specs.declared.answers.Parted.TheVariants.{Parted, Roomy}
 use Rattle.mi_world.specs.Pages.{PartsPage}
-use Rattle.mi_hall.specs.PageRows.{HalvesRow}
+use Rattle.mi_solo.specs.PageRows.{HalvesRow}
 use Rattle.mi_hall.specs.Passes.{AreNear, HasWord, PassState}
 use Rattle.mi_hall.specs.Seats.{seat_view}
 use Rattle.mi_hall.proofs.AbsorbedLemmas.{kept_gone}
@@ -43,7 +43,7 @@ give_page-requires-clause-does g c =
     let e = c.take_fresh-vacant.ensures in
     let d = c.take_page-node.ensures in
     let t = taken _ c.self.inside.seat.me c.take_fresh-vacant.new.seat.me c.take_page-node.new.seat.me c.args.page c.in-Some.child _ c.self.inside.row _ _ c.take_page-node.result c.take_fresh-vacant.result c.self.invariant.0 fr e.took e.told e.last d.took d.told in
-    let hd = subst (λ o. HalvesRow c.args.page c.take_page-node.result c.self.inside.row o c.halve_row.new.node c.halve_row.new.row) c.in_default-halve_row.is c.halve_row.ensures in
+    let hd = subst (λ o. HalvesRow c.args.page o c.take_page-node.result c.self.inside.row c.halve_row.new.node c.halve_row.new.row) c.in_default-halve_row.is c.halve_row.ensures in
     roomy_does _ c.self.inside.seat.me c.args.page c.in-Some.child c.take_page-node.result _ c.self.inside.row _ _ c.self.invariant.0 fr t.found t.apart c.halve_row.new.row c.halve_row.new.node hd c.take_page-node.new.seat.me t.is d.last
 
 pub invariant_of-self : goal.invariant_of-self
@@ -52,7 +52,7 @@ invariant_of-self g c =
     let e = c.take_fresh-vacant.ensures in
     let d = c.take_page-node.ensures in
     let t = taken _ c.self.inside.seat.me c.take_fresh-vacant.new.seat.me c.take_page-node.new.seat.me c.args.page c.in-Some.child _ c.self.inside.row _ _ c.take_page-node.result c.take_fresh-vacant.result c.self.invariant.0 fr e.took e.told e.last d.took d.told in
-    let hd = subst (λ o. HalvesRow c.args.page c.take_page-node.result c.self.inside.row o c.halve_row.new.node c.halve_row.new.row) c.in_default-halve_row.is c.halve_row.ensures in
+    let hd = subst (λ o. HalvesRow c.args.page o c.take_page-node.result c.self.inside.row c.halve_row.new.node c.halve_row.new.row) c.in_default-halve_row.is c.halve_row.ensures in
     let x = named_before c.self.inside.seat.me c.self.inside.seat.table_id c.args.latches.now.table.shared.table_id c.args.self.now _ c.args.latches.now.words c.self.invariant.1 c.self.view_is c.requires.table _ c.requires.named in
     let ends = roomy_ends _ c.self.inside.seat.me c.args.page c.in-Some.child c.take_page-node.result _ c.self.inside.row _ _ c.self.invariant.0 fr t.found t.apart c.halve_row.new.row c.halve_row.new.node hd c.take_page-node.new.seat.me c.give_page.new.seat.me c.give_vacant.new.seat.me t.is c.give_page.ensures.gave c.give_vacant.ensures.gave in (
       halves_pass _ c.self.inside.seat.me c.args.page c.in-Some.child c.take_page-node.result _ c.self.inside.row _ _ c.self.invariant.0 fr t.found t.apart c.give_vacant.new.seat.me c.halve_row.new.row c.halve_row.new.node _ ends (ap (λ z. z.shard) hd.2),
@@ -69,7 +69,7 @@ returns-in_default-halve_row-clause-told g c =
     let e = c.take_fresh-vacant.ensures in
     let d = c.take_page-node.ensures in
     let t = taken _ c.self.inside.seat.me c.take_fresh-vacant.new.seat.me c.take_page-node.new.seat.me c.args.page c.in-Some.child _ c.self.inside.row _ _ c.take_page-node.result c.take_fresh-vacant.result c.self.invariant.0 fr e.took e.told e.last d.took d.told in
-    let hd = subst (λ o. HalvesRow c.args.page c.take_page-node.result c.self.inside.row o c.halve_row.new.node c.halve_row.new.row) c.in_default-halve_row.is c.halve_row.ensures in
+    let hd = subst (λ o. HalvesRow c.args.page o c.take_page-node.result c.self.inside.row c.halve_row.new.node c.halve_row.new.row) c.in_default-halve_row.is c.halve_row.ensures in
     let ends = roomy_ends _ c.self.inside.seat.me c.args.page c.in-Some.child c.take_page-node.result _ c.self.inside.row _ _ c.self.invariant.0 fr t.found t.apart c.halve_row.new.row c.halve_row.new.node hd c.take_page-node.new.seat.me c.give_page.new.seat.me c.give_vacant.new.seat.me t.is c.give_page.ensures.gave c.give_vacant.ensures.gave in
     let known = subst (λ (z : PassState). IsTrue ((seat_view z.sight).named c.args.page)) (sym c.self.view_is) c.requires.named in
     told_of (λ v w. PartsPage v w c.args.page Roomy) c.self.inside.seat.me.0 c.give_vacant.new.seat.me.0 _ _ c.self.view_is (roomy_told _ c.self.inside.seat.me c.args.page c.in-Some.child c.take_page-node.result _ c.self.inside.row _ _ c.self.invariant.0 fr t.found t.apart c.halve_row.new.row c.halve_row.new.node hd c.give_vacant.new.seat.me ends known)
@@ -85,7 +85,7 @@ give_lower-requires-clause-returns g c =
     let e = c.take_fresh-vacant.ensures in
     let d = c.take_page-node.ensures in
     let t = taken _ c.self.inside.seat.me c.take_fresh-vacant.new.seat.me c.take_page-node.new.seat.me c.args.page c.in-Some.child _ c.self.inside.row _ _ c.take_page-node.result c.take_fresh-vacant.result c.self.invariant.0 fr e.took e.told e.last d.took d.told in
-    let hd = subst (λ o. HalvesRow c.args.page c.take_page-node.result c.self.inside.row o c.halve_row.new.node c.halve_row.new.row) c.in-Some-halve_row.is c.halve_row.ensures in
+    let hd = subst (λ o. HalvesRow c.args.page o c.take_page-node.result c.self.inside.row c.halve_row.new.node c.halve_row.new.row) c.in-Some-halve_row.is c.halve_row.ensures in
     lower_returns _ c.self.inside.seat.me c.args.page c.in-Some.child c.take_page-node.result _ c.self.inside.row _ _ c.self.invariant.0 fr t.found t.apart c.halve_row.new.row c.in-Some-halve_row.upper c.halve_row.new.node hd c.take_page-node.new.seat.me t.is d.last
 
 pub give_lower-requires-clause-does : goal.give_lower-requires-clause-does
@@ -94,7 +94,7 @@ give_lower-requires-clause-does g c =
     let e = c.take_fresh-vacant.ensures in
     let d = c.take_page-node.ensures in
     let t = taken _ c.self.inside.seat.me c.take_fresh-vacant.new.seat.me c.take_page-node.new.seat.me c.args.page c.in-Some.child _ c.self.inside.row _ _ c.take_page-node.result c.take_fresh-vacant.result c.self.invariant.0 fr e.took e.told e.last d.took d.told in
-    let hd = subst (λ o. HalvesRow c.args.page c.take_page-node.result c.self.inside.row o c.halve_row.new.node c.halve_row.new.row) c.in-Some-halve_row.is c.halve_row.ensures in
+    let hd = subst (λ o. HalvesRow c.args.page o c.take_page-node.result c.self.inside.row c.halve_row.new.node c.halve_row.new.row) c.in-Some-halve_row.is c.halve_row.ensures in
     lower_does _ c.self.inside.seat.me c.args.page c.in-Some.child c.take_page-node.result _ c.self.inside.row _ _ c.self.invariant.0 fr t.found t.apart c.halve_row.new.row c.in-Some-halve_row.upper c.halve_row.new.node hd c.take_page-node.new.seat.me t.is d.last
 
 pub give_page_back-requires-clause-last : goal.give_page_back-requires-clause-last
@@ -103,7 +103,7 @@ give_page_back-requires-clause-last g c =
     let e = c.take_fresh-vacant.ensures in
     let d = c.take_page-node.ensures in
     let t = taken _ c.self.inside.seat.me c.take_fresh-vacant.new.seat.me c.take_page-node.new.seat.me c.args.page c.in-Some.child _ c.self.inside.row _ _ c.take_page-node.result c.take_fresh-vacant.result c.self.invariant.0 fr e.took e.told e.last d.took d.told in
-    let hd = subst (λ o. HalvesRow c.args.page c.take_page-node.result c.self.inside.row o c.halve_row.new.node c.halve_row.new.row) c.in-Some-halve_row.is c.halve_row.ensures in
+    let hd = subst (λ o. HalvesRow c.args.page o c.take_page-node.result c.self.inside.row c.halve_row.new.node c.halve_row.new.row) c.in-Some-halve_row.is c.halve_row.ensures in
     upper_last _ c.self.inside.seat.me c.args.page c.in-Some.child c.take_page-node.result _ c.self.inside.row _ _ c.self.invariant.0 fr t.found t.apart c.halve_row.new.row c.in-Some-halve_row.upper c.halve_row.new.node hd c.take_page-node.new.seat.me t.is d.last c.give_lower.new.seat.me c.give_lower.ensures.gave
 
 pub invariant_of-self-2 : goal.invariant_of-self-2
@@ -112,7 +112,7 @@ invariant_of-self-2 g c =
     let e = c.take_fresh-vacant.ensures in
     let d = c.take_page-node.ensures in
     let t = taken _ c.self.inside.seat.me c.take_fresh-vacant.new.seat.me c.take_page-node.new.seat.me c.args.page c.in-Some.child _ c.self.inside.row _ _ c.take_page-node.result c.take_fresh-vacant.result c.self.invariant.0 fr e.took e.told e.last d.took d.told in
-    let hd = subst (λ o. HalvesRow c.args.page c.take_page-node.result c.self.inside.row o c.halve_row.new.node c.halve_row.new.row) c.in-Some-halve_row.is c.halve_row.ensures in
+    let hd = subst (λ o. HalvesRow c.args.page o c.take_page-node.result c.self.inside.row c.halve_row.new.node c.halve_row.new.row) c.in-Some-halve_row.is c.halve_row.ensures in
     let x = named_before c.self.inside.seat.me c.self.inside.seat.table_id c.args.latches.now.table.shared.table_id c.args.self.now _ c.args.latches.now.words c.self.invariant.1 c.self.view_is c.requires.table _ c.requires.named in
     let ends = parted_ends _ c.self.inside.seat.me c.args.page c.in-Some.child c.take_page-node.result _ c.self.inside.row _ _ c.self.invariant.0 fr t.found t.apart c.halve_row.new.row c.in-Some-halve_row.upper c.halve_row.new.node hd c.take_page-node.new.seat.me t.is d.last c.give_lower.new.seat.me c.give_page_back.new.seat.me c.give_lower.ensures.gave c.give_page_back.ensures.gave in (
       halves_pass _ c.self.inside.seat.me c.args.page c.in-Some.child c.take_page-node.result _ c.self.inside.row _ _ c.self.invariant.0 fr t.found t.apart c.give_page_back.new.seat.me c.halve_row.new.row c.halve_row.new.node (halves_named c.in-Some.child c.take_page-node.result ++ names_of c.take_page-node.result) ends (ap (λ z. z.shard) hd.1.row_is),
@@ -129,7 +129,7 @@ returns-clause-told g c =
     let e = c.take_fresh-vacant.ensures in
     let d = c.take_page-node.ensures in
     let t = taken _ c.self.inside.seat.me c.take_fresh-vacant.new.seat.me c.take_page-node.new.seat.me c.args.page c.in-Some.child _ c.self.inside.row _ _ c.take_page-node.result c.take_fresh-vacant.result c.self.invariant.0 fr e.took e.told e.last d.took d.told in
-    let hd = subst (λ o. HalvesRow c.args.page c.take_page-node.result c.self.inside.row o c.halve_row.new.node c.halve_row.new.row) c.in-Some-halve_row.is c.halve_row.ensures in
+    let hd = subst (λ o. HalvesRow c.args.page o c.take_page-node.result c.self.inside.row c.halve_row.new.node c.halve_row.new.row) c.in-Some-halve_row.is c.halve_row.ensures in
     let ends = parted_ends _ c.self.inside.seat.me c.args.page c.in-Some.child c.take_page-node.result _ c.self.inside.row _ _ c.self.invariant.0 fr t.found t.apart c.halve_row.new.row c.in-Some-halve_row.upper c.halve_row.new.node hd c.take_page-node.new.seat.me t.is d.last c.give_lower.new.seat.me c.give_page_back.new.seat.me c.give_lower.ensures.gave c.give_page_back.ensures.gave in
     let known = subst (λ (z : PassState). IsTrue ((seat_view z.sight).named c.args.page)) (sym c.self.view_is) c.requires.named in
     told_of (λ v w. PartsPage v w c.args.page (Parted c.low-key.result c.in-Some.child)) c.self.inside.seat.me.0 c.give_page_back.new.seat.me.0 _ _ c.self.view_is

@@ -1,10 +1,11 @@
 use Rattle.std.proofs.Common.{◌∙◌, ap, subst, sym}
 use Rattle.atomic_table.specs.Seated.{TableId}
+use Rattle.mi_solo.proofs.PageTurns.{trims_keep}
 use Rattle.mi_hall.specs.Passes.{AreNear}
 use Rattle.mi_hall.proofs.AbsorbedLemmas.{kept_gone}
 use Rattle.mi_hall.proofs.PassLemmas.{given_at, turned_cells, word_stays}
 use Rattle.mi_hall.proofs.PageSection.{named_before, named_here, sibling_here, turned_near, turned_pass}
-use Rattle.mi_hall.proofs.TrimCall.{trim_leaf_page, trims_does, trims_hand, trims_pin, trims_shard, trims_told}
+use Rattle.mi_hall.proofs.TrimCall.{trim_leaf_page, trims_does, trims_told}
 use Rattle.mi_hall.proofs.passes.Pass.trim.Goals as goal
 
 pub take_page-node-requires-clause-table : goal.take_page-node-requires-clause-table
@@ -34,12 +35,13 @@ give_page-requires-clause-does g c = let e = c.take_page-node.ensures in trims_d
 pub invariant_of-self : goal.invariant_of-self
 invariant_of-self g c =
     let e = c.take_page-node.ensures in
+    let keeps = (trims_keep _ c.take_page-node.result c.trim_row-answer.new.node c.self.inside.row c.trim_row-answer.new.row c.trim_row-answer.result c.trim_row-answer.ensures).0 in
     let x = named_before c.self.inside.seat.me c.self.inside.seat.table_id c.args.latches.now.table.shared.table_id c.args.self.now _ c.args.latches.now.words c.self.invariant.1 c.self.view_is c.requires.table _ c.requires.named in (
-      turned_pass _ _ _ _ _ _ _ _ _ c.self.invariant.0 e.took e.told c.give_page.new.seat.me c.trim_row-answer.new.row c.trim_row-answer.new.node c.give_page.ensures.gave (trims_shard _ c.take_page-node.result c.trim_row-answer.new.node c.self.inside.row c.trim_row-answer.new.row c.trim_row-answer.result c.trim_row-answer.ensures),
+      turned_pass _ _ _ _ _ _ _ _ _ c.self.invariant.0 e.took e.told c.give_page.new.seat.me c.trim_row-answer.new.row c.trim_row-answer.new.node c.give_page.ensures.gave keeps.shard,
       subst (λ (t : TableId). AreNear t.words c.give_page.new.seat.me.0.mine.named) (sym (c.give_page.ensures.table.0 ∙ e.table.0))
           (turned_near _ _ _ _ _ _ _ _ _ c.self.invariant.0 e.took e.told c.give_page.new.seat.me c.trim_row-answer.new.row c.trim_row-answer.new.node c.give_page.ensures.gave _ (ap (λ (t : TableId). t.words) x.0 ∙ c.args.latches.now.words) c.self.invariant.1),
-      turned_cells _ _ c.give_page.new.seat.me _ _ c.trim_row-answer.new.row _ _ _ c.take_page-node.result c.trim_row-answer.new.node c.self.invariant.0 c.self.invariant.2 e.took c.give_page.ensures.gave (trims_pin _ c.take_page-node.result c.trim_row-answer.new.node c.self.inside.row c.trim_row-answer.new.row c.trim_row-answer.result c.trim_row-answer.ensures),
-      word_stays _ _ c.self.inside.row.hand.fresh c.trim_row-answer.new.row.hand.fresh (c.give_page.ensures.table.0 ∙ e.table.0) (trims_hand _ c.take_page-node.result c.trim_row-answer.new.node c.self.inside.row c.trim_row-answer.new.row c.trim_row-answer.result c.trim_row-answer.ensures) c.self.invariant.3,
+      turned_cells _ _ c.give_page.new.seat.me _ _ c.trim_row-answer.new.row _ _ _ c.take_page-node.result c.trim_row-answer.new.node c.self.invariant.0 c.self.invariant.2 e.took c.give_page.ensures.gave keeps.pin,
+      word_stays _ _ c.self.inside.row.hand.fresh c.trim_row-answer.new.row.hand.fresh (c.give_page.ensures.table.0 ∙ e.table.0) keeps.fresh c.self.invariant.3,
       given_at _ _ _ c.give_page.ensures.gave (given_at _ _ _ e.took c.self.invariant.4),
       kept_gone _ _ _ c.give_page.ensures.gave (kept_gone _ _ _ e.took c.self.invariant.5),
     )

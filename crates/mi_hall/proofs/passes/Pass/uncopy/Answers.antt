@@ -3,11 +3,11 @@ use Rattle.atomic_table.specs.Seated.{TableId}
 use Rattle.mi_base.specs.Configuration.{Configuration}
 use Rattle.mi_page.specs.Entries.{has_entry}
 use Rattle.mi_page.specs.Keys.{IsInside}
-use Rattle.mi_hall.specs.LeafRows.{IsSplitting, UncopiesRow, copied_by, copy_key}
+use Rattle.mi_solo.specs.LeafRows.{IsSplitting, UncopiesRow, copied_by, copy_key}
 use Rattle.mi_hall.specs.Passes.{AreNear}
 use Rattle.mi_hall.proofs.AbsorbedLemmas.{kept_gone}
 use Rattle.mi_hall.proofs.CopyCalls.{copy_works, uncopies_does, uncopies_told, uncopy_few, uncopy_low, uncopy_some, uncopy_there}
-use Rattle.mi_hall.proofs.CopyRows.{uncopies_hand, uncopies_pin, uncopies_shard}
+use Rattle.mi_solo.proofs.CopyRows.{uncopies_hand, uncopies_pin, uncopies_shard}
 use Rattle.mi_hall.proofs.PassLemmas.{given_at, turned_cells, word_stays}
 use Rattle.mi_hall.proofs.PageSection.{named_before, named_here, sibling_here, turned_near, turned_pass}
 use Rattle.mi_hall.proofs.passes.Pass.uncopy.Goals as goal
@@ -62,7 +62,7 @@ give_page-requires-clause-last g c = (_, c.take_page-node.ensures.last)
 pub give_page-requires-clause-does : goal.give_page-requires-clause-does
 give_page-requires-clause-does g c =
     let e = c.take_page-node.ensures in
-    let x = subst (λ (s : Configuration). UncopiesRow s c.args.page c.self.inside.told c.take_page-node.result c.self.inside.row c.uncopy_row-answer.result c.uncopy_row-answer.new.node c.uncopy_row-answer.new.row) c.args.latches.now.same c.uncopy_row-answer.ensures in
+    let x = subst (λ (s : Configuration). UncopiesRow s c.args.page c.self.inside.told c.uncopy_row-answer.result c.take_page-node.result c.self.inside.row c.uncopy_row-answer.new.node c.uncopy_row-answer.new.row) c.args.latches.now.same c.uncopy_row-answer.ensures in
     uncopies_does _ _ _ _ _ _ _ _ _ c.self.invariant.0 e.took e.told _ _ c.self.view_is c.requires.splitting c.requires.named c.requires.some c.requires.low _ _ c.uncopy_row-answer.result x e.last
 
 pub invariant_of-self : goal.invariant_of-self
@@ -84,5 +84,5 @@ invariant_of-self g c =
 pub returns-clause-told : goal.returns-clause-told
 returns-clause-told g c =
     let e = c.take_page-node.ensures in
-    let x = subst (λ (s : Configuration). UncopiesRow s c.args.page c.self.inside.told c.take_page-node.result c.self.inside.row c.uncopy_row-answer.result c.uncopy_row-answer.new.node c.uncopy_row-answer.new.row) c.args.latches.now.same c.uncopy_row-answer.ensures in
+    let x = subst (λ (s : Configuration). UncopiesRow s c.args.page c.self.inside.told c.uncopy_row-answer.result c.take_page-node.result c.self.inside.row c.uncopy_row-answer.new.node c.uncopy_row-answer.new.row) c.args.latches.now.same c.uncopy_row-answer.ensures in
     uncopies_told _ _ _ _ _ _ _ _ _ c.self.invariant.0 e.took e.told _ _ c.self.view_is c.requires.splitting c.requires.named c.requires.some c.requires.low _ _ _ c.give_page.ensures.gave c.uncopy_row-answer.result x

@@ -1,54 +1,67 @@
-use Rattle.std.proofs.Common.{◌≤◌, ◌∙◌, subst, sym}
+use Rattle.std.proofs.Common.{◌≡◌, ◌<◌, ◌≤◌, ap, arith, false, length, subst, sym}
+use Rattle.mi_base.specs.Configuration.{Configuration}
+use Rattle.mi_entries.specs.Actors.{Actor}
+use Rattle.mi_page.specs.Entries.{has_entry, without_dead}
 use Rattle.mi_page.specs.Nodes.{Node}
-use Rattle.mi_solo.specs.Seeking.{EndsAfter, PointsDown, PointsRight}
-use Rattle.mi_solo.specs.States.{node_in, state_of}
-use Rattle.mi_solo.proofs.CopySections.{copied_shown, next_key, takes}
+use Rattle.mi_core.specs.Events.{copied_of}
+use Rattle.mi_world.specs.Splits.{next_copy}
+use Rattle.mi_solo.specs.LeafRows.{CopiesRow, IsSplitting, copied_by, copy_key}
+use Rattle.mi_solo.specs.States.{actor_in, split_of, state_of, view_in}
+use Rattle.mi_solo.specs.Viewing.{copy_keys, shown_to}
+use Rattle.mi_solo.proofs.CopyRows.{copy_nowhere, has_copy, keys_many, row_splits}
+use Rattle.mi_solo.proofs.CoreLemmas.{row_is, there}
 use Rattle.mi_solo.proofs.DescentLemmas.{has_sibling}
 use Rattle.mi_solo.proofs.PageLemmas.{node_here, page_here}
-use Rattle.mi_solo.proofs.WayLemmas.{only_noted, told_of, told_to}
+use Rattle.mi_solo.proofs.PageTurns.{on_page}
 use Rattle.mi_solo.proofs.cores.Core.copy_in.Goals as goal
 
-pub seek-requires-clause-low : goal.seek-requires-clause-low
-seek-requires-clause-low c above =
+pub copy_row-requires-clause-splitting : goal.copy_row-requires-clause-splitting
+copy_row-requires-clause-splitting c =
     let s = c.args.self.now in
-    told_to s c.args.page c.requires.linked c.index.result.now c.index.ensures c.in-Some.node c.in-Some.is (λ (n : Node) k. n.low ≤ k) c.copy_at-entry.result.key _
-    (next_key (state_of s) c.args.actor c.copied-copied.result c.copy_at-entry.result c.copy_at-entry.ensures (c.copied-copied.ensures ∙ copied_shown (state_of s) c.args.actor)) c.requires.low
+    let a = c.args.actor in
+    let row = c.index_mut-me.result.now in
+    let its = ap (λ (r : Actor). r.split) (row_is s a c.requires.going.known row c.index_mut-me.ensures.value) in
+    let works : IsSplitting s.board.settings row = row_splits (state_of s) c.requires.kept a (actor_in (state_of s) a) (there s a c.requires.going.known) row its c.requires.whole.splitting in
+    subst (λ (x : Configuration). IsSplitting x row) (sym c.settings.ensures) works
 
-pub seek-requires-clause-sibling : goal.seek-requires-clause-sibling
-seek-requires-clause-sibling c =
+pub copy_row-requires-clause-more : goal.copy_row-requires-clause-more
+copy_row-requires-clause-more c =
     let s = c.args.self.now in
-    has_sibling (state_of s) c.requires.kept c.args.page c.in-Some.node (page_here s c.args.page c.requires.linked c.index.result.now c.index.ensures c.in-Some.node c.in-Some.is)
+    let a = c.args.actor in
+    let row = c.index_mut-me.result.now in
+    let shown : copied_of (split_of row.split) < length (copy_keys s.board.settings (split_of row.split)) = subst (λ (r : Actor). (shown_to (state_of s) a r).copied < length (shown_to (state_of s) a r).copies) (row_is s a c.requires.going.known row c.index_mut-me.ensures.value) c.requires.more in
+    omega (arith, shown, keys_many s.board.settings (split_of row.split))
 
-pub take_copy-requires-clause-low : goal.take_copy-requires-clause-low
-take_copy-requires-clause-low c =
+pub copy_row-requires-clause-low : goal.copy_row-requires-clause-low
+copy_row-requires-clause-low c =
     let s = c.args.self.now in
-    subst (λ k. (node_in (state_of s) c.args.page).low ≤ k)
-    (sym (next_key (state_of s) c.args.actor c.copied-copied.result c.copy_at-entry.result c.copy_at-entry.ensures (c.copied-copied.ensures ∙ copied_shown (state_of s) c.args.actor))) c.requires.low
+    let a = c.args.actor in
+    let row = c.index_mut-me.result.now in
+    let n = c.in-Some.node in
+    subst (λ (x : Configuration). n.low ≤ copy_key x row (copied_by row)) (sym c.settings.ensures)
+    (subst (λ (r : Actor). n.low ≤ next_copy (shown_to (state_of s) a r)) (row_is s a c.requires.going.known row c.index_mut-me.ensures.value)
+    (subst (λ (m : Node). m.low ≤ next_copy (view_in (state_of s) a)) (node_here s c.args.page c.requires.linked c.index_mut.result.now c.index_mut.ensures.value c.in-Some.node c.in-Some.is) c.requires.low))
 
-pub take_copy-requires-clause-ends : goal.take_copy-requires-clause-ends
-take_copy-requires-clause-ends c =
-    subst (λ n. EndsAfter n 0 c.copy_at-entry.result.key) (sym (node_here c.args.self.now c.args.page c.requires.linked c.index.result.now c.index.ensures c.in-Some.node c.in-Some.is)) c.in-Here.ensures
-
-pub returns-in-Down : goal.returns-in-Down
-returns-in-Down c =
-    let s = c.args.self.now in (
-      only_noted s c.args.page c.requires.linked c.index.result.now c.index.ensures c.in-Some.node c.in-Some.is c.args.actor c.requires.going.known c.index_mut.result.now c.index_mut.ensures.value c.note.new.self c.note.ensures,
-      told_of s c.args.page c.requires.linked c.index.result.now c.index.ensures c.in-Some.node c.in-Some.is (λ n k. PointsDown n 0 k c.in-Down.child) c.copy_at-entry.result.key _
-          (next_key (state_of s) c.args.actor c.copied-copied.result c.copy_at-entry.result c.copy_at-entry.ensures (c.copied-copied.ensures ∙ copied_shown (state_of s) c.args.actor)) c.in-Down.ensures,
-    )
-
-pub returns-in-Right : goal.returns-in-Right
-returns-in-Right c =
-    let s = c.args.self.now in (
-      only_noted s c.args.page c.requires.linked c.index.result.now c.index.ensures c.in-Some.node c.in-Some.is c.args.actor c.requires.going.known c.index_mut-in-Right.result.now c.index_mut-in-Right.ensures.value c.note-in-Right.new.self c.note-in-Right.ensures,
-      told_of s c.args.page c.requires.linked c.index.result.now c.index.ensures c.in-Some.node c.in-Some.is (λ n k. PointsRight n 0 k c.in-Right.next) c.copy_at-entry.result.key _
-          (next_key (state_of s) c.args.actor c.copied-copied.result c.copy_at-entry.result c.copy_at-entry.ensures (c.copied-copied.ensures ∙ copied_shown (state_of s) c.args.actor)) c.in-Right.ensures,
-    )
-
-pub returns-in-Here : goal.returns-in-Here
-returns-in-Here c =
+pub copy_row-requires-clause-absent : goal.copy_row-requires-clause-absent
+copy_row-requires-clause-absent c leaf =
     let s = c.args.self.now in
-    let key = next_key (state_of s) c.args.actor c.copied-copied.result c.copy_at-entry.result c.copy_at-entry.ensures (c.copied-copied.ensures ∙ copied_shown (state_of s) c.args.actor) in
-    let here = node_here s c.args.page c.requires.linked c.index.result.now c.index.ensures c.in-Some.node c.in-Some.is in
-    takes (state_of s) c.args.actor c.copied-copied.result c.copy_at-entry.result c.copy_at-entry.ensures c.args.page c.take_copy.result (state_of c.take_copy.new.self)
-    (subst (EndsAfter (node_in (state_of s) c.args.page) 0) key (subst (λ n. EndsAfter n 0 c.copy_at-entry.result.key) (sym here) c.in-Here.ensures)) c.take_copy.ensures
+    let a = c.args.actor in
+    let row = c.index_mut-me.result.now in
+    let its = ap (λ (r : Actor). r.split) (row_is s a c.requires.going.known row c.index_mut-me.ensures.value) in
+    let works : IsSplitting s.board.settings row = row_splits (state_of s) c.requires.kept a (actor_in (state_of s) a) (there s a c.requires.going.known) row its c.requires.whole.splitting in
+    let shown : copied_of (split_of row.split) < length (copy_keys s.board.settings (split_of row.split)) = subst (λ (r : Actor). (shown_to (state_of s) a r).copied < length (shown_to (state_of s) a r).copies) (row_is s a c.requires.going.known row c.index_mut-me.ensures.value) c.requires.more in
+    let has = has_copy s.board.settings row works (copied_by row) (omega (arith, shown, keys_many s.board.settings (split_of row.split))) in
+    subst (λ (x : Configuration). has_entry (copy_key x row (copied_by row)) (without_dead row.floor.updates c.in-Some.node.entries) ≡ false) (sym c.settings.ensures)
+    (copy_nowhere (state_of s) c.requires.kept a (actor_in (state_of s) a) (there s a c.requires.going.known) row its c.args.page c.in-Some.node (page_here s c.args.page c.requires.linked c.index_mut.result.now c.index_mut.ensures.value c.in-Some.node c.in-Some.is) has.0 has.1 leaf row.floor.updates)
+
+pub copy_row-requires-clause-sibling : goal.copy_row-requires-clause-sibling
+copy_row-requires-clause-sibling c =
+    let s = c.args.self.now in
+    has_sibling (state_of s) c.requires.kept c.args.page c.in-Some.node (page_here s c.args.page c.requires.linked c.index_mut.result.now c.index_mut.ensures.value c.in-Some.node c.in-Some.is)
+
+pub returns : goal.returns
+returns c =
+    let s = c.args.self.now in
+    on_page s c.args.actor c.requires.going.known c.index_mut-me.result.now c.index_mut-me.ensures.value c.args.page c.requires.linked c.index_mut.result.now c.index_mut.ensures.value c.in-Some.node c.in-Some.is
+    (CopiesRow s.board.settings c.args.page c.copy_row.result) c.copy_row.new.node c.copy_row.new.row
+    (subst (λ (x : Configuration). CopiesRow x c.args.page c.copy_row.result c.in-Some.node c.index_mut-me.result.now c.copy_row.new.node c.copy_row.new.row) c.settings.ensures c.copy_row.ensures)

@@ -1,63 +1,31 @@
-use Rattle.std.proofs.Common.{◌≡◌, ◌∙◌, ◌<◌, ap, arith, refl, subst, sym}
-use Rattle.mi_core.specs.Effects.{paid, trim_leaf}
-use Rattle.mi_page.specs.Nodes.{item_count}
-use Rattle.mi_solo.specs.declared.rows.ActorRow.{ActorRow}
-use Rattle.mi_solo.specs.Seeking.{EndsAfter, PointsDown, PointsRight}
+use Rattle.std.proofs.Common.{◌<◌, ◌≤◌, ap, arith, sym}
+use Rattle.mi_solo.specs.PageRows.{PostsRow}
 use Rattle.mi_solo.specs.States.{actor_in, state_of}
-use Rattle.mi_solo.proofs.DescentLemmas.{has_sibling}
-use Rattle.mi_solo.proofs.PageLemmas.{node_here, page_here}
-use Rattle.mi_solo.proofs.RouteEvents.{can_post}
-use Rattle.mi_solo.proofs.RouteSections.{few_routes, is_posted, is_visited, routes_stay}
+use Rattle.mi_solo.proofs.DescentLemmas.{has_sibling, shows_page}
+use Rattle.mi_solo.proofs.PageLemmas.{page_here}
+use Rattle.mi_solo.proofs.PageTurns.{on_page}
 use Rattle.mi_solo.proofs.cores.Core.post.Goals as goal
 
-pub seek-requires-clause-sibling : goal.seek-requires-clause-sibling
-seek-requires-clause-sibling c =
-    has_sibling (state_of c.args.self.now) c.requires.kept c.args.page c.in-Some.node (page_here c.args.self.now c.args.page c.requires.seeks.named c.index_mut.result.now c.index_mut.ensures.value c.in-Some.node c.in-Some.is)
+pub post_row-requires-clause-inner : goal.post_row-requires-clause-inner
+post_row-requires-clause-inner c = omega (arith, c.requires.route.level_is)
 
-pub returns-in-Down : goal.returns-in-Down
-returns-in-Down c =
+pub post_row-requires-clause-above : goal.post_row-requires-clause-above
+post_row-requires-clause-above c =
     let s = c.args.self.now in
-    let is = node_here s c.args.page c.requires.seeks.named c.index_mut.result.now c.index_mut.ensures.value c.in-Some.node c.in-Some.is in (
-      is_visited s c.args.actor c.requires.going.known c.index_mut-me.result.now c.index_mut-me.ensures.value c.args.page c.requires.seeks.named c.index_mut.result.now c.index_mut.ensures.value c.in-Some.node c.in-Some.is
-          c.note.new.self c.note.ensures c.in-Some.node refl,
-      subst (λ n. PointsDown n c.args.level c.args.key c.in-Down.next) (sym is) c.in-Down.ensures,
-    )
+    let shows = shows_page (state_of s) c.args.actor (actor_in (state_of s) c.args.actor) c.args.page c.in-Some.node (page_here s c.args.page c.requires.seeks.named c.index_mut.result.now c.index_mut.ensures.value c.in-Some.node c.in-Some.is) in
+    omega (arith, shows.level, c.requires.seeks.level_is)
 
-pub returns-in-Right : goal.returns-in-Right
-returns-in-Right c =
+pub post_row-requires-clause-low : goal.post_row-requires-clause-low
+post_row-requires-clause-low c =
     let s = c.args.self.now in
-    let is = node_here s c.args.page c.requires.seeks.named c.index_mut.result.now c.index_mut.ensures.value c.in-Some.node c.in-Some.is in (
-      is_visited s c.args.actor c.requires.going.known c.index_mut-me.result.now c.index_mut-me.ensures.value c.args.page c.requires.seeks.named c.index_mut.result.now c.index_mut.ensures.value c.in-Some.node c.in-Some.is
-          c.note.new.self c.note.ensures c.in-Some.node refl,
-      subst (λ n. PointsRight n c.args.level c.args.key c.in-Right.next) (sym is) c.in-Right.ensures,
-    )
+    let shows = shows_page (state_of s) c.args.actor (actor_in (state_of s) c.args.actor) c.args.page c.in-Some.node (page_here s c.args.page c.requires.seeks.named c.index_mut.result.now c.index_mut.ensures.value c.in-Some.node c.in-Some.is) in
+    omega (arith, shows.low, c.requires.seeks.low_is)
 
-pub returns-in-Here : goal.returns-in-Here
-returns-in-Here c =
+pub post_row-requires-clause-sibling : goal.post_row-requires-clause-sibling
+post_row-requires-clause-sibling c =
     let s = c.args.self.now in
-    let is = node_here s c.args.page c.requires.seeks.named c.index_mut.result.now c.index_mut.ensures.value c.in-Some.node c.in-Some.is in
-    let ends : EndsAfter c.in-Some.node c.args.level c.args.key = c.in-Here.ensures in
-    let inner : 0 < c.in-Some.node.level = omega (arith, ends.level, c.requires.route.level_is) in
-    let floor = (actor_in (state_of s) c.args.actor).floor.updates in
-    let many : item_count c.in-Some.node ≡ 32 = sym c.len.ensures.count ∙ c.if-len-eq-CAPACITY.true in (
-      is_visited s c.args.actor c.requires.going.known c.index_mut-me.result.now c.index_mut-me.ensures.value c.args.page c.requires.seeks.named c.index_mut.result.now c.index_mut.ensures.value c.in-Some.node c.in-Some.is
-          c.note.new.self c.note.ensures c.in-Some.node refl,
-      subst (λ n. EndsAfter n c.args.level c.args.key) (sym is) ends,
-      ap (λ n. item_count (trim_leaf floor n)) is ∙ ap item_count (routes_stay floor c.in-Some.node inner) ∙ many,
-    )
+    has_sibling (state_of s) c.requires.kept c.args.page c.in-Some.node (page_here s c.args.page c.requires.seeks.named c.index_mut.result.now c.index_mut.ensures.value c.in-Some.node c.in-Some.is)
 
-pub returns-in-Here-2 : goal.returns-in-Here-2
-returns-in-Here-2 c =
-    let s = c.args.self.now in
-    let a = c.args.actor in
-    let here = page_here s c.args.page c.requires.seeks.named c.index_mut.result.now c.index_mut.ensures.value c.in-Some.node c.in-Some.is in
-    let is = node_here s c.args.page c.requires.seeks.named c.index_mut.result.now c.index_mut.ensures.value c.in-Some.node c.in-Some.is in
-    let ends : EndsAfter c.in-Some.node c.args.level c.args.key = c.in-Here-2.ensures in
-    let inner : 0 < c.in-Some.node.level = omega (arith, ends.level, c.requires.route.level_is) in
-    let space = few_routes c.in-Some.node c.len.ensures.node inner (λ h. c.if-len-eq-CAPACITY.false (c.len.ensures.count ∙ h)) in
-    let may = can_post (state_of s) a (actor_in (state_of s) a) c.args.level c.args.key c.args.child c.requires.route c.args.page c.in-Some.node here c.requires.seeks.low_is ends space in (
-      is_posted s a c.requires.going.known c.index_mut-me.result.now c.index_mut-me.ensures.value c.args.page c.requires.seeks.named c.index_mut.result.now c.index_mut.ensures.value c.in-Some.node c.in-Some.is
-          c.args.key c.args.child may c.put_route.new.page c.put_route.ensures c.pay.new.self (c.pay.ensures ∙ ap (λ (r : ActorRow). record r.hand { owed = paid c.args.child r.hand.owed }) c.note.ensures)
-          _ (ap (λ (r : ActorRow). record r { hand = c.pay.new.self }) c.note.ensures),
-      subst (λ n. EndsAfter n c.args.level c.args.key) (sym is) ends,
-    )
+pub returns : goal.returns
+returns c = on_page c.args.self.now c.args.actor c.requires.going.known c.index_mut-me.result.now c.index_mut-me.ensures.value c.args.page c.requires.seeks.named c.index_mut.result.now c.index_mut.ensures.value c.in-Some.node c.in-Some.is
+    (PostsRow c.args.page c.args.level c.args.key c.args.child c.post_row.result) c.post_row.new.node c.post_row.new.row c.post_row.ensures

@@ -1,53 +1,81 @@
-use Rattle.std.proofs.Common.{◌≤◌, ◌-◌, ◌∙◌, ap, arith, subst, sym}
+use Rattle.std.proofs.Common.{◌≡◌, ◌<◌, ◌≤◌, ◌-◌, ◌==◌, ◌∙◌, Bool, ap, arith, length, subst, sym, true}
+use Rattle.mi_base.specs.Configuration.{Configuration}
+use Rattle.mi_entries.specs.Actors.{Actor}
+use Rattle.mi_page.specs.Entries.{has_entry}
 use Rattle.mi_page.specs.Nodes.{Node}
-use Rattle.mi_solo.specs.Seeking.{EndsAfter, PointsDown, PointsRight}
-use Rattle.mi_solo.specs.States.{node_in, state_of}
-use Rattle.mi_solo.proofs.CopySections.{copied_shown, fewer_copied, last_key}
+use Rattle.mi_core.specs.Events.{copied_of}
+use Rattle.mi_page.specs.Keys.{IsInside}
+use Rattle.mi_world.specs.Splits.{last_copy}
+use Rattle.mi_solo.specs.LeafRows.{IsSplitting, UncopiesRow, copied_by, copy_key}
+use Rattle.mi_solo.specs.States.{actor_in, state_of, view_in}
+use Rattle.mi_solo.specs.Viewing.{shown_to}
+use Rattle.mi_solo.proofs.CopyRows.{copied_few, copy_on_page, has_copy, row_splits, some_split}
+use Rattle.mi_solo.proofs.CoreLemmas.{row_is, there}
 use Rattle.mi_solo.proofs.DescentLemmas.{has_sibling}
 use Rattle.mi_solo.proofs.PageLemmas.{node_here, page_here}
-use Rattle.mi_solo.proofs.WayLemmas.{only_noted, told_of, told_to}
+use Rattle.mi_solo.proofs.PageTurns.{on_page}
 use Rattle.mi_solo.proofs.cores.Core.uncopy.Goals as goal
 
-pub copy_at-entry-requires-clause-place : goal.copy_at-entry-requires-clause-place
-copy_at-entry-requires-clause-place c =
-    let few = fewer_copied c.args.self.now c.args.actor c.requires.going.known c.requires.kept in
-    let some = c.requires.some in
-    let is = c.copied-left.ensures ∙ copied_shown (state_of c.args.self.now) c.args.actor in
-    omega (arith, few, some, is)
-
-pub seek-requires-clause-low : goal.seek-requires-clause-low
-seek-requires-clause-low c above =
+pub uncopy_row-requires-clause-splitting : goal.uncopy_row-requires-clause-splitting
+uncopy_row-requires-clause-splitting c =
     let s = c.args.self.now in
-    told_to s c.args.page c.requires.linked c.index.result.now c.index.ensures c.in-Some.node c.in-Some.is (λ (n : Node) k. n.low ≤ k) c.copy_at-entry.result.key _
-    (last_key (state_of s) c.args.actor (c.copied-left.result - 1) c.copy_at-entry.result c.copy_at-entry.ensures (ap (λ n. n - 1) (c.copied-left.ensures ∙ copied_shown (state_of s) c.args.actor))) c.requires.low
+    let a = c.args.actor in
+    let row = c.index_mut-me.result.now in
+    let its = ap (λ (r : Actor). r.split) (row_is s a c.requires.going.known row c.index_mut-me.ensures.value) in
+    let works : IsSplitting s.board.settings row = row_splits (state_of s) c.requires.kept a (actor_in (state_of s) a) (there s a c.requires.going.known) row its (some_split (actor_in (state_of s) a).split c.requires.some) in
+    subst (λ (x : Configuration). IsSplitting x row) (sym c.settings-2.ensures) works
 
-pub seek-requires-clause-sibling : goal.seek-requires-clause-sibling
-seek-requires-clause-sibling c =
+pub uncopy_row-requires-clause-some : goal.uncopy_row-requires-clause-some
+uncopy_row-requires-clause-some c =
     let s = c.args.self.now in
-    has_sibling (state_of s) c.requires.kept c.args.page c.in-Some.node (page_here s c.args.page c.requires.linked c.index.result.now c.index.ensures c.in-Some.node c.in-Some.is)
+    let a = c.args.actor in
+    let row = c.index_mut-me.result.now in
+    let some : 0 < copied_by row = subst (λ (r : Actor). 0 < copied_of r.split) (row_is s a c.requires.going.known row c.index_mut-me.ensures.value) c.requires.some in
+    some
 
-pub drop_copy-requires-clause-low : goal.drop_copy-requires-clause-low
-drop_copy-requires-clause-low c =
+pub uncopy_row-requires-clause-few : goal.uncopy_row-requires-clause-few
+uncopy_row-requires-clause-few c =
     let s = c.args.self.now in
-    subst (λ k. (node_in (state_of s) c.args.page).low ≤ k)
-    (sym (last_key (state_of s) c.args.actor (c.copied-left.result - 1) c.copy_at-entry.result c.copy_at-entry.ensures (ap (λ n. n - 1) (c.copied-left.ensures ∙ copied_shown (state_of s) c.args.actor)))) c.requires.low
+    let a = c.args.actor in
+    let row = c.index_mut-me.result.now in
+    let its = ap (λ (r : Actor). r.split) (row_is s a c.requires.going.known row c.index_mut-me.ensures.value) in
+    let works : IsSplitting s.board.settings row = row_splits (state_of s) c.requires.kept a (actor_in (state_of s) a) (there s a c.requires.going.known) row its (some_split (actor_in (state_of s) a).split c.requires.some) in
+    copied_few (state_of s) c.requires.kept a (actor_in (state_of s) a) (there s a c.requires.going.known) row its works
 
-pub drop_copy-requires-clause-ends : goal.drop_copy-requires-clause-ends
-drop_copy-requires-clause-ends c =
-    subst (λ n. EndsAfter n 0 c.copy_at-entry.result.key) (sym (node_here c.args.self.now c.args.page c.requires.linked c.index.result.now c.index.ensures c.in-Some.node c.in-Some.is)) c.in-Here.ensures
+pub uncopy_row-requires-clause-low : goal.uncopy_row-requires-clause-low
+uncopy_row-requires-clause-low c =
+    let s = c.args.self.now in
+    let a = c.args.actor in
+    let row = c.index_mut-me.result.now in
+    let n = c.in-Some.node in
+    subst (λ (x : Configuration). n.low ≤ copy_key x row (copied_by row - 1)) (sym c.settings-2.ensures)
+    (subst (λ (r : Actor). n.low ≤ last_copy (shown_to (state_of s) a r)) (row_is s a c.requires.going.known row c.index_mut-me.ensures.value)
+    (subst (λ (m : Node). m.low ≤ last_copy (view_in (state_of s) a)) (node_here s c.args.page c.requires.linked c.index_mut.result.now c.index_mut.ensures.value c.in-Some.node c.in-Some.is) c.requires.low))
 
-pub returns-in-Down : goal.returns-in-Down
-returns-in-Down c =
-    let s = c.args.self.now in (
-      only_noted s c.args.page c.requires.linked c.index.result.now c.index.ensures c.in-Some.node c.in-Some.is c.args.actor c.requires.going.known c.index_mut.result.now c.index_mut.ensures.value c.note.new.self c.note.ensures,
-      told_of s c.args.page c.requires.linked c.index.result.now c.index.ensures c.in-Some.node c.in-Some.is (λ n k. PointsDown n 0 k c.in-Down.child) c.copy_at-entry.result.key _
-          (last_key (state_of s) c.args.actor (c.copied-left.result - 1) c.copy_at-entry.result c.copy_at-entry.ensures (ap (λ n. n - 1) (c.copied-left.ensures ∙ copied_shown (state_of s) c.args.actor))) c.in-Down.ensures,
-    )
+pub uncopy_row-requires-clause-there : goal.uncopy_row-requires-clause-there
+uncopy_row-requires-clause-there c leaf inside =
+    let s = c.args.self.now in
+    let a = c.args.actor in
+    let row = c.index_mut-me.result.now in
+    let its = ap (λ (r : Actor). r.split) (row_is s a c.requires.going.known row c.index_mut-me.ensures.value) in
+    let works : IsSplitting s.board.settings row = row_splits (state_of s) c.requires.kept a (actor_in (state_of s) a) (there s a c.requires.going.known) row its (some_split (actor_in (state_of s) a).split c.requires.some) in
+    let some : 0 < copied_by row = subst (λ (r : Actor). 0 < copied_of r.split) (row_is s a c.requires.going.known row c.index_mut-me.ensures.value) c.requires.some in
+    let few = copied_few (state_of s) c.requires.kept a (actor_in (state_of s) a) (there s a c.requires.going.known) row its works in
+    let has = has_copy s.board.settings row works (copied_by row - 1) (omega (arith, some, few)) in
+    let n = c.in-Some.node in
+    subst (λ (x : Configuration). has_entry (copy_key x row (copied_by row - 1)) n.entries ≡ true) (sym c.settings-2.ensures)
+    (copy_on_page (state_of s) c.requires.kept a (actor_in (state_of s) a) (there s a c.requires.going.known) row its c.args.page n (page_here s c.args.page c.requires.linked c.index_mut.result.now c.index_mut.ensures.value c.in-Some.node c.in-Some.is) has.0 has.1 some leaf
+    (subst (λ (x : Configuration). IsInside n.low n.high (copy_key x row (copied_by row - 1))) c.settings-2.ensures inside))
 
-pub returns-in-Right : goal.returns-in-Right
-returns-in-Right c =
-    let s = c.args.self.now in (
-      only_noted s c.args.page c.requires.linked c.index.result.now c.index.ensures c.in-Some.node c.in-Some.is c.args.actor c.requires.going.known c.index_mut-in-Right.result.now c.index_mut-in-Right.ensures.value c.note-in-Right.new.self c.note-in-Right.ensures,
-      told_of s c.args.page c.requires.linked c.index.result.now c.index.ensures c.in-Some.node c.in-Some.is (λ n k. PointsRight n 0 k c.in-Right.next) c.copy_at-entry.result.key _
-          (last_key (state_of s) c.args.actor (c.copied-left.result - 1) c.copy_at-entry.result c.copy_at-entry.ensures (ap (λ n. n - 1) (c.copied-left.ensures ∙ copied_shown (state_of s) c.args.actor))) c.in-Right.ensures,
-    )
+pub uncopy_row-requires-clause-sibling : goal.uncopy_row-requires-clause-sibling
+uncopy_row-requires-clause-sibling c =
+    let s = c.args.self.now in
+    has_sibling (state_of s) c.requires.kept c.args.page c.in-Some.node (page_here s c.args.page c.requires.linked c.index_mut.result.now c.index_mut.ensures.value c.in-Some.node c.in-Some.is)
+
+pub returns : goal.returns
+returns c =
+    let s = c.args.self.now in
+    on_page s c.args.actor c.requires.going.known c.index_mut-me.result.now c.index_mut-me.ensures.value c.args.page c.requires.linked c.index_mut.result.now c.index_mut.ensures.value c.in-Some.node c.in-Some.is
+    (UncopiesRow s.board.settings c.args.page (view_in (state_of s) c.args.actor).told c.uncopy_row.result) c.uncopy_row.new.node c.uncopy_row.new.row
+    (subst (λ (b : Bool). UncopiesRow s.board.settings c.args.page b c.uncopy_row.result c.in-Some.node c.index_mut-me.result.now c.uncopy_row.new.node c.uncopy_row.new.row) (ap (λ n. n == c.behind-self.inside.pages) c.allotted.ensures.result ∙ ap (λ (x : Configuration). s.board.allotted == x.pages) (c.behind-self.view_is ∙ c.settings.ensures))
+    (subst (λ (x : Configuration). UncopiesRow x c.args.page (c.allotted.result == c.behind-self.inside.pages) c.uncopy_row.result c.in-Some.node c.index_mut-me.result.now c.uncopy_row.new.node c.uncopy_row.new.row) c.settings-2.ensures c.uncopy_row.ensures))

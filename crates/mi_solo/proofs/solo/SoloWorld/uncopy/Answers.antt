@@ -1,6 +1,6 @@
-use Rattle.std.proofs.Common.{IsTrue, subst, sym}
-use Rattle.mi_solo.specs.Solos.{SoloState}
-use Rattle.mi_solo.specs.States.{is_linked}
+use Rattle.std.proofs.Common.{◌<◌, ◌≤◌, subst, sym}
+use Rattle.mi_world.specs.Splits.{last_copy}
+use Rattle.mi_solo.specs.Solos.{SoloState, view_of}
 use Rattle.mi_solo.proofs.CopyAnswers.{answer_uncopy}
 use Rattle.mi_solo.proofs.SoloLemmas.{section_at, stays_so, told_at}
 use Rattle.mi_solo.proofs.solo.SoloWorld.uncopy.Goals as goal
@@ -9,19 +9,22 @@ pub invariant_of-self : goal.invariant_of-self
 invariant_of-self c =
     let s = c.self.inside in
     let d = c.uncopy.new.self in
-    let x = answer_uncopy s.core d s.turn c.self.invariant.0 c.self.invariant.1 c.args.page (subst (λ (t : SoloState). IsTrue (is_linked t.state c.args.page)) (sym c.self.view_is) c.requires.named) c.uncopy.result c.uncopy.ensures in
+    let at = subst (λ (t : SoloState). (0 < (view_of t).copied) × ((view_of t).low c.args.page ≤ last_copy (view_of t))) (sym c.self.view_is) (c.requires.some, c.requires.low) in
+    let x = answer_uncopy s.core d s.turn c.self.invariant.0 c.self.invariant.1 c.args.page at.0 at.1 c.uncopy.result c.uncopy.ensures in
     stays_so s.core d s.turn x c.self.invariant.0 c.self.invariant.1
 
 pub returns-clause-told : goal.returns-clause-told
 returns-clause-told c =
     let s = c.self.inside in
     let d = c.uncopy.new.self in
-    let x = answer_uncopy s.core d s.turn c.self.invariant.0 c.self.invariant.1 c.args.page (subst (λ (t : SoloState). IsTrue (is_linked t.state c.args.page)) (sym c.self.view_is) c.requires.named) c.uncopy.result c.uncopy.ensures in
+    let at = subst (λ (t : SoloState). (0 < (view_of t).copied) × ((view_of t).low c.args.page ≤ last_copy (view_of t))) (sym c.self.view_is) (c.requires.some, c.requires.low) in
+    let x = answer_uncopy s.core d s.turn c.self.invariant.0 c.self.invariant.1 c.args.page at.0 at.1 c.uncopy.result c.uncopy.ensures in
     told_at s.core d s.turn x c.args.self.now c.self.view_is
 
 pub returns-clause-section : goal.returns-clause-section
 returns-clause-section c =
     let s = c.self.inside in
     let d = c.uncopy.new.self in
-    let x = answer_uncopy s.core d s.turn c.self.invariant.0 c.self.invariant.1 c.args.page (subst (λ (t : SoloState). IsTrue (is_linked t.state c.args.page)) (sym c.self.view_is) c.requires.named) c.uncopy.result c.uncopy.ensures in
+    let at = subst (λ (t : SoloState). (0 < (view_of t).copied) × ((view_of t).low c.args.page ≤ last_copy (view_of t))) (sym c.self.view_is) (c.requires.some, c.requires.low) in
+    let x = answer_uncopy s.core d s.turn c.self.invariant.0 c.self.invariant.1 c.args.page at.0 at.1 c.uncopy.result c.uncopy.ensures in
     section_at s.core d s.turn x c.self.invariant.0 c.self.invariant.1 c.args.self.now c.self.view_is
