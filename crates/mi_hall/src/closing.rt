@@ -57,7 +57,7 @@ impl Hall {
         ensures err { IfErr result (λ back. (back.hall ≡ self) × (back.pass ≡ pass)) }
     {
         let count = count_up(pass.actor as usize + 1, &pass.gone);
-        let Ok(room) = make_room(alloc, self.latches.table.slot_count(), count) else {
+        let Ok(room) = make_room(alloc, self.latches.slot_count(), count) else {
             return Err(HallBack { hall: self, pass });
         };
         let Room {

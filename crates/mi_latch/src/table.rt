@@ -28,7 +28,8 @@ pub type Seat = atomic_table::Seat<Slot, View>;
 /// p.
 #[derive(Drop)]
 pub struct LatchTable {
-    pub table: Table<Slot, View, Settings, Latches, Global>,
+    // Nobody above makes steps of his own here: so what a seat notes is what a give told it.
+    pub(crate) table: Table<Slot, View, Settings, Latches, Global>,
     /// The settings of its board, which need no take.
     pub settings: Settings,
     pub ghost words: { table.shared.table_id.words ≡ table.shared.key.pages + 17 },
@@ -37,6 +38,13 @@ pub struct LatchTable {
 }
 
 impl LatchTable {
+    /// How many slots it has: one for the board, sixteen for the shards, one for each page.
+    pub fn slot_count(&self) -> usize
+        ensures { result ≡ self.now.table.shared.table_id.slots }
+    {
+        self.table.slot_count()
+    }
+
     // Takes the value of a page or of the board out, where no seat has it.
     fn try_open<E: Of>(&self, seat: &mut Seat, slot: usize, actor: u32) -> Option<Slot>
         requires of { E.settings ≡ self.now.table.shared.key }
