@@ -19,6 +19,7 @@ use Rattle.mi_entries.specs.Actors.{Actor}
 use Rattle.mi_entries.proofs.EntryLemmas.{get_last, get_more}
 use Rattle.mi_latch.specs.Wanting.{given_in}
 use Rattle.mi_latch.specs.declared.slots.Slot.TheVariants.{OfBoard}
+use Rattle.mi_latch.specs.Acts.{GivesBy}
 use Rattle.mi_latch.specs.Boards.{IsTold, Telling, seeing}
 use Rattle.mi_latch.specs.Ends.{adding, child_mine}
 use Rattle.mi_latch.specs.Found.{FoundBoard, MayTell}
@@ -92,10 +93,10 @@ module _ (c : State) (a : ℕ) (r : Actor) (was : BoardState) (is : c.board ≡ 
     };
   }
 
--- the board goes back with one more actor
-pub fork_does : (settings : Configuration) (m : Seated) (was : BoardState) (t : Telling) → HoldsLast m 0 (OfBoard was) → m.0.born ≡ [] → length was.actors < 4294967295
-    → IsTold m.0.actor m.0.mine was (with_more was) (saw was m.0.mine.part) t → Doing settings m.0 (adding m.0 was t) 0 (OfBoard (with_more was))
-fork_does settings m was t l unborn few told c held b =
+-- the board goes back with one more actor: it was made
+pub fork_is : (settings : Configuration) (m : Seated) (was : BoardState) (t : Telling) → HoldsLast m 0 (OfBoard was) → m.0.born ≡ [] → length was.actors < 4294967295
+    → IsTold m.0.actor m.0.mine was (with_more was) (saw was m.0.mine.part) t → GivesBy settings fork m.0 (adding m.0 was t) 0 (OfBoard (with_more was))
+fork_is settings m was t l unborn few told c held b =
     let v : Sight = m.0 in
     let a : ℕ = v.actor in
     let r : Actor = v.mine.part in
@@ -121,25 +122,27 @@ fork_does settings m was t l unborn few told c held b =
     let one : One (at c) (at d) 0 (OfBoard (with_more was)) = record { here = ap (λ x. OfBoard (with_more x)) is; others = (at_board c (with_more c.board)).others } in
     let writes = writes_frame (at c) (at d) 0 (OfBoard (with_more was)) (rest v.out) one (λ j y h. b.values j y (rest_has v 0 (OfBoard was) (rest v.out) l.out j y h)) l.others in
     let knows_more : length (with_more was).actors ≡ count + 1 = length-append was.actors (idle ∷ []) in (
-      d,
       record {
-        next = inl record { actor = r; there = f.part; going = mine.going; event = fork; can = can; is = refl };
-        own = record {
-          mine = λ h. record { small = mine.small; going = mine.going };
-          born = λ x y h. ⊎_elim (λ e. subst (λ (z : ℕ). IsGoing z y) e.0 (subst (λ (z : Mine). IsGoing count z) e.1 (record { small = few; going = refl }))) (λ z. absurd z) h;
-          over = b.own.over;
-          forked = λ x h. ⊎_elim (λ z. let low = b.own.forked x z in let n = f.knows.count in omega (arith, low, n, same, knows_more))
-              (λ z. ⊎_elim (λ e. omega (arith, e, knows_more)) (λ z. absurd z) z) (in_either v.forked (count ∷ []) x h);
+        can = can;
+        changes = record {
+          next = inl record { actor = r; there = f.part; going = mine.going; event = fork; can = can; is = refl };
+          own = record {
+            mine = λ h. record { small = mine.small; going = mine.going };
+            born = λ x y h. ⊎_elim (λ e. subst (λ (z : ℕ). IsGoing z y) e.0 (subst (λ (z : Mine). IsGoing count z) e.1 (record { small = few; going = refl }))) (λ z. absurd z) h;
+            over = b.own.over;
+            forked = λ x h. ⊎_elim (λ z. let low = b.own.forked x z in let n = f.knows.count in omega (arith, low, n, same, knows_more))
+                (λ z. ⊎_elim (λ e. omega (arith, e, knows_more)) (λ z. absurd z) z) (in_either v.forked (count ∷ []) x h);
+          };
+          records = λ x y h. ⊎_elim
+              (λ e. subst (λ (z : ℕ). Fits d z y) e.0 (subst (λ (z : Mine). Fits d a z) e.1 own_now))
+              (λ h. ⊎_elim (λ e. subst (λ (z : ℕ). Fits d z y) e.0 (subst (λ (z : Mine). Fits d count z) e.1 child_now))
+              (λ g. old x y (λ e. b.unjoined (y, subst (λ (z : ℕ). Has v.absorbed z y) e g)) (b.records x y (in_v x y g))) h) h;
+          others = λ x y g not_mine. old x y (λ e. not_mine (v.mine, subst (λ (z : ℕ). Has (stands v) z v.mine) (sym e) (own v l.live))) g;
+          values = writes.values;
+          rest = writes.rest;
+          mark = λ word h k g near. absurd (omega arith);
+          marks = λ i word ne h. marks_on c d i word (λ k g near. refl) h;
         };
-        records = λ x y h. ⊎_elim
-            (λ e. subst (λ (z : ℕ). Fits d z y) e.0 (subst (λ (z : Mine). Fits d a z) e.1 own_now))
-            (λ h. ⊎_elim (λ e. subst (λ (z : ℕ). Fits d z y) e.0 (subst (λ (z : Mine). Fits d count z) e.1 child_now))
-            (λ g. old x y (λ e. b.unjoined (y, subst (λ (z : ℕ). Has v.absorbed z y) e g)) (b.records x y (in_v x y g))) h) h;
-        others = λ x y g not_mine. old x y (λ e. not_mine (v.mine, subst (λ (z : ℕ). Has (stands v) z v.mine) (sym e) (own v l.live))) g;
-        values = writes.values;
-        rest = writes.rest;
-        mark = λ word h k g near. absurd (omega arith);
-        marks = λ i word ne h. marks_on c d i word (λ k g near. refl) h;
       },
       record {
         back = λ x h. ⊎_elim (λ e. inl (v.mine, subst (λ (z : ℕ). Has (stands v) z v.mine) e.0 (own v l.live)))
@@ -152,6 +155,11 @@ fork_does settings m was t l unborn few told c held b =
             (λ ge. let here : count ≡ x = omega (arith, same, size) in inr (in_right v.forked (count ∷ []) x (inl here), (let z = mine_below in omega (arith, same))));
       },
     )
+
+pub fork_does : (settings : Configuration) (m : Seated) (was : BoardState) (t : Telling) → HoldsLast m 0 (OfBoard was) → m.0.born ≡ [] → length was.actors < 4294967295
+    → IsTold m.0.actor m.0.mine was (with_more was) (saw was m.0.mine.part) t → Doing settings m.0 (adding m.0 was t) 0 (OfBoard (with_more was))
+fork_does settings m was t l unborn few told c held b = let is = fork_is settings m was t l unborn few told c held b in
+    (after c m.0.actor m.0.mine.part fork, is.0.changes, is.1)
 
 -- the same from the state that the take of the board found
 pub fork_gives : (settings : Configuration) (m : Seated) (was : BoardState) → HoldsLast m 0 (OfBoard was) → FoundBoard settings m.0.actor m.0.mine (rest m.0.out) was → m.0.born ≡ [] → length was.actors < 4294967295

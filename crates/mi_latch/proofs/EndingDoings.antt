@@ -20,6 +20,7 @@ use Rattle.mi_core.proofs.ActorLemmas.{set_else, set_there}
 use Rattle.mi_core.proofs.LaterEvents.{event_leads_on}
 use Rattle.mi_latch.specs.declared.slots.Slot.{Slot}
 use Rattle.mi_latch.specs.declared.slots.Slot.TheVariants.{Vacant}
+use Rattle.mi_latch.specs.Acts.{JoinsBy}
 use Rattle.mi_latch.specs.Ends.{IsBare, Leaves, blend, over}
 use Rattle.mi_latch.specs.Layout.{at, slot_count}
 use Rattle.mi_latch.specs.Shows.{Backs, Covers, Has, HasKey, In, Merges, joined, spent, stands, stands_if}
@@ -173,6 +174,10 @@ module _ (settings : Configuration) (v w : Sight) (live : v.live ≡ true) (live
       marks = λ k word h. marks_on c d k word (λ j e near. refl) h;
       made_same = many;
     }
+
+  -- the join is the end of the other's actor
+  pub absorb_is : JoinsBy settings v w
+  absorb_is c held b b' disjoint = (can c held b b' disjoint, merges c held b b' disjoint)
 
   -- One seat takes in another, which holds nothing: the staying seat knows what both know, and the other's actor is over
   pub absorbs : (id other : ℕ) (z : Mine) → w.out ≡ [] → Joins (Latched settings) id v other w (joined blend over v w) (spent z)

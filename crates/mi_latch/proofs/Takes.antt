@@ -12,6 +12,7 @@ use Rattle.mi_core.specs.Named.{Named}
 use Rattle.mi_core.specs.State.{State, put_actor, put_shard}
 use Rattle.mi_latch.specs.declared.slots.Slot.{Slot}
 use Rattle.mi_latch.specs.declared.slots.Slot.TheVariants.{OfShard, Vacant}
+use Rattle.mi_latch.specs.Acts.{GivesBy, TakesShard}
 use Rattle.mi_latch.specs.Layout.{at, slot_count, slot_of}
 use Rattle.mi_latch.specs.Shows.{Backs, Changes, Has, HasKey, Returns, Took, stands_if, with_out}
 use Rattle.mi_latch.specs.Takes.{Finds, IsPage, IsPlain, IsShard, claimed, miss_none, miss_shard_at, missed_none, missed_shard_at, missing, released, see_none, see_shard, took}
@@ -92,27 +93,42 @@ knows_part c shards actors m r many seen claim pin k = record {
   passed = λ p h. k.passed p (sym claim ∙ h);
 }
 
--- a shard that is taken is claimed: the event of the take
-sees_shard : (k : ℕ) (settings : Configuration) (v : Sight) → k < 16 → v.live ≡ true → v.mine.part.shard ≡ None → Sees at Fits Own Marks made (Held settings) Next (held_keeps settings) fits_made (see_shard k) (Finds settings) v (k + 1)
-sees_shard k settings v near live idle c held b free =
+-- a shard that nobody holds is claimed by its take
+pub claim_is : (k : ℕ) (settings : Configuration) (v : Sight) → k < 16 → v.live ≡ true → v.mine.part.shard ≡ None → TakesShard settings k v
+claim_is k settings v near live idle c held b none =
     let a : ℕ = v.actor in
     let r : Actor = v.mine.part in
     let q : Mine = with_part (claimed k r) v.mine in
     let kept : Rows = (shard_at c.shards k).rows in
-    let none : (shard_at c.shards k).holder ≡ None = none_of (shard_at c.shards k).holder (free k refl near) in
     let f = me settings c held v live b in
     let s : Shard = held_by (Some a) kept in
     let d : State = after c a r (claim_shard k kept) in
     let sixteen = held.kept.sound.sixteen in
     let long : k < length c.shards = omega arith in
-    let next = (k + 1, at c (k + 1)) ∷ v.out in
-    let read = read_shard c k sixteen near in
+    let next : List (ℕ × Slot) = (k + 1, OfShard kept) ∷ v.out in
     let t = changes settings c held v live b (claim_shard k kept) (near, idle, refl, none) q next [] (k + 1) (a + 1) refl
     (knows_part c (slice_set c.shards k s) (slice_set c.actors a (claimed k r)) v.mine (claimed k r) (length-set c.actors a (claimed k r)) refl refl refl f.knows) refl (omega arith)
-    (writes_same (at c) (at d) (k + 1) (OfShard kept) (and_actor c (put_shard k s c) a (claimed k r) (k + 1) (OfShard kept) (at_shard c k s sixteen near)) read)
+    (writes_same (at c) (at d) (k + 1) (OfShard kept) (and_actor c (put_shard k s c) a (claimed k r) (k + 1) (OfShard kept) (at_shard c k s sixteen near)) (read_shard c k sixteen near))
     (λ word h. here_right c d k (a + 1) s refl long refl)
     (λ i word ne h. others_right c d k s refl i word ne h) in
-    (d, subst (λ (w : Sight). Changes at Fits Own Marks made Next c d v w [] (k + 1) (a + 1)) (lives v q next live) t.0, length-set c.actors a q.part, record { core = c; held = held; backs = b; value = refl })
+    record {
+      can = (near, idle, refl, none);
+      changes = subst (λ (w : Sight). Changes at Fits Own Marks made Next c d v w [] (k + 1) (a + 1)) (lives v q next live) t.0;
+    }
+
+-- the event of the take of a shard
+sees_shard : (k : ℕ) (settings : Configuration) (v : Sight) → k < 16 → v.live ≡ true → v.mine.part.shard ≡ None → Sees at Fits Own Marks made (Held settings) Next (held_keeps settings) fits_made (see_shard k) (Finds settings) v (k + 1)
+sees_shard k settings v near live idle c held b free =
+    let kept : Rows = (shard_at c.shards k).rows in
+    let d : State = after c v.actor v.mine.part (claim_shard k kept) in
+    let none : (shard_at c.shards k).holder ≡ None = none_of (shard_at c.shards k).holder (free k refl near) in
+    let is = claim_is k settings v near live idle c held b none in (
+      d,
+      subst (λ (y : Slot). Changes at Fits Own Marks made Next c d v (with_out (see_shard k) v (k + 1) y) [] (k + 1) (v.actor + 1))
+          (sym (read_shard c k held.kept.sound.sixteen near)) is.changes,
+      length-set c.actors v.actor (claimed k v.mine.part),
+      record { core = c; held = held; backs = b; value = refl },
+    )
 
 -- a shard that is held is noted with its holder: an event of the actor's record alone
 misses_shard : (k : ℕ) (settings : Configuration) (v : Sight) → k < 16 → v.live ≡ true → v.mine.part.shard ≡ None
@@ -149,10 +165,10 @@ tries_shard slots id k a settings m near live idle e = subst (λ (j : ℕ). Allo
     (tries at Fits Own Marks made (Held settings) Next (held_keeps settings) fits_made (slot_count settings) slots id (k + 1) m (see_shard k) (Finds settings) (miss_shard_at k) missed_shard_at (omega arith) live
     (sees_shard k settings m.0 near live idle) (misses_shard k settings m.0 near live idle))
 
--- the shard goes back
-pub release_does : (k : ℕ) (settings : Configuration) (m : Seated) (x : Rows) → m.0.mine.part.shard ≡ Some k → HoldsLast m (k + 1) (OfShard x)
-    → Doing settings m.0 (now m.0 (with_part (released m.0.mine.part) m.0.mine) (rest m.0.out)) (k + 1) (OfShard x)
-release_does k settings m x has l c held b =
+-- the shard goes back: its release
+pub release_is : (k : ℕ) (settings : Configuration) (m : Seated) (x : Rows) → m.0.mine.part.shard ≡ Some k → HoldsLast m (k + 1) (OfShard x)
+    → GivesBy settings (release_shard k x) m.0 (now m.0 (with_part (released m.0.mine.part) m.0.mine) (rest m.0.out)) (k + 1) (OfShard x)
+release_is k settings m x has l c held b =
     let v : Sight = m.0 in
     let a : ℕ = v.actor in
     let r : Actor = v.mine.part in
@@ -171,7 +187,12 @@ release_does k settings m x has l c held b =
     (λ j y h. b.values j y (rest_has v (k + 1) (OfShard x) (rest v.out) l.out j y h)) l.others)
     (λ word h. here_right c d k 0 s refl long refl)
     (λ i word ne h. others_right c d k s refl i word ne h) in
-    (d, t.0, t.1)
+    (record { can = (has, is); changes = t.0 }, t.1)
+
+pub release_does : (k : ℕ) (settings : Configuration) (m : Seated) (x : Rows) → m.0.mine.part.shard ≡ Some k → HoldsLast m (k + 1) (OfShard x)
+    → Doing settings m.0 (now m.0 (with_part (released m.0.mine.part) m.0.mine) (rest m.0.out)) (k + 1) (OfShard x)
+release_does k settings m x has l c held b = let is = release_is k settings m x has l c held b in
+    (after c m.0.actor m.0.mine.part (release_shard k x), is.0.changes, is.1)
 
 -- a give, once the value lies in the seat's slot
 pub gives : (slots id i : ℕ) (settings : Configuration) (me m : Seated) (y : Slot) (w : Sight) → m ≡ (me.0, (i, y) ∷ rest me.1) → Returns me.0 w i → Doing settings me.0 w i y

@@ -7,6 +7,7 @@ pub mod Boards
 pub mod PageSteps
 pub mod Boths
 pub mod Ends
+pub mod Acts
 pub mod Naming
 pub mod Noting
 pub mod Decided

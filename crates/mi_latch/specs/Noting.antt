@@ -4,7 +4,7 @@ use Rattle.mi_latch.specs.declared.slots.Slot.{Slot}
 use Rattle.mi_latch.specs.declared.slots.Slot.TheVariants.{OfBoard, OfPage, OfShard, Vacant}
 use Rattle.mi_latch.specs.PageSteps.{items_for}
 use Rattle.mi_latch.specs.Shows.{Has}
-use Rattle.mi_latch.specs.Views.{Note, Sight}
+use Rattle.mi_latch.specs.Views.{Sight}
 use Rattle.mi_page.specs.Nodes.{Node}
 
 -- the page noted is as before, or is one that is still out beside the board

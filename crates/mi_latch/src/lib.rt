@@ -13,7 +13,7 @@ mod view;
 
 pub use known::Known;
 pub use latches::{Aim, Latches, Of, OfShard};
-pub use laws::gives_are_events;
+pub use laws::{gives_are_events, shards_and_families_are_events};
 pub use slots::Slot;
 pub use table::{LatchTable, Seat};
 pub use view::View;
