@@ -5,9 +5,9 @@ use Rattle.mi_base.specs.declared.records.Update.TheVariants as update
 use Rattle.mi_base.specs.declared.records.LogEvent.{LogEvent}
 use Rattle.mi_base.specs.declared.records.LogEvent.TheVariants as event
 use Rattle.mi_base.specs.declared.records.Op.{Op}
-use Rattle.mi_base.specs.declared.records.Op.TheVariants.{Insert, Delete}
+use Rattle.mi_base.specs.declared.records.Op.TheVariants.{Insert, Delete, Range as OpRange, Nearest as OpNearest}
 use Rattle.mi_base.specs.declared.records.Reply.{Reply}
-use Rattle.mi_base.specs.declared.records.Reply.TheVariants.{Stored, Removed, Present, Absent, Range, Nearest}
+use Rattle.mi_base.specs.declared.records.Reply.TheVariants.{Stored, Removed, Present, Absent, Full, NoPages, Memory, Range, Nearest}
 use Rattle.mi_base.specs.Configuration.{Configuration}
 use Rattle.mi_base.specs.History.{Entered, entered, events_at}
 use Rattle.mi_tree.specs.Legal.{LegalLog}
@@ -27,11 +27,29 @@ AllRight c log allotted session (os ∷ scripts) (ys ∷ replies) = EachRight c 
 AllRight c log allotted session [] (ys ∷ replies) = ⊥
 AllRight c log allotted session (os ∷ scripts) [] = ⊥
 
--- the update that an operation enters into the log where it is accepted
+-- The update that an operation enters into the log where it is accepted. Each reply of an update stands here by name, so that one that is
+-- added later can't enter an update unseen.
 abbrev pub accepted_update : ℕ → ℕ → Op → Reply → List Entered
 accepted_update session op (Insert id vector) (Stored n) = record { session = session; op = op; update = update.Insert id vector } ∷ []
+accepted_update session op (Insert id vector) (Removed n) = []
+accepted_update session op (Insert id vector) (Present p) = []
+accepted_update session op (Insert id vector) (Absent p) = []
+accepted_update session op (Insert id vector) (Full limit) = []
+accepted_update session op (Insert id vector) (NoPages limit) = []
+accepted_update session op (Insert id vector) Memory = []
+accepted_update session op (Insert id vector) (Range p rows cells distances) = []
+accepted_update session op (Insert id vector) (Nearest p rows cells) = []
+accepted_update session op (Delete id) (Stored n) = []
 accepted_update session op (Delete id) (Removed n) = record { session = session; op = op; update = update.Delete id } ∷ []
-accepted_update session op o y = []
+accepted_update session op (Delete id) (Present p) = []
+accepted_update session op (Delete id) (Absent p) = []
+accepted_update session op (Delete id) (Full limit) = []
+accepted_update session op (Delete id) (NoPages limit) = []
+accepted_update session op (Delete id) Memory = []
+accepted_update session op (Delete id) (Range p rows cells distances) = []
+accepted_update session op (Delete id) (Nearest p rows cells) = []
+accepted_update session op (OpRange radius query) y = []
+accepted_update session op (OpNearest count query) y = []
 
 -- the accepted updates of a script in order, each once
 abbrev pub accepted_in : ℕ → ℕ → List Op → List Reply → List Entered
@@ -52,15 +70,18 @@ events_to (suc n) [] = 0
 events_to (suc n) (event.Update session op u ∷ log) = 1 + events_to n log
 events_to (suc n) (event.Split prefix ∷ log) = 1 + events_to (suc n) log
 
--- how many events the prefix of a reply's position has, where the reply has a position
+-- How many events the prefix of a reply's position has, where the reply has a position. Each reply stands here by name, since one that is left
+-- out could fall behind earlier ones.
 abbrev pub reach : List LogEvent → Reply → Option ℕ
 reach log (Stored n) = Some (events_to n log)
 reach log (Removed n) = Some (events_to n log)
 reach log (Present p) = Some (events_at p)
 reach log (Absent p) = Some (events_at p)
+reach log (Full limit) = None
+reach log (NoPages limit) = None
+reach log Memory = None
 reach log (Range p rows cells distances) = Some (events_at p)
 reach log (Nearest p rows cells) = Some (events_at p)
-reach log y = None
 
 -- no position falls behind an earlier one, nor behind so many events
 abbrev pub NeverFalls : List LogEvent → ℕ → List Reply → Type 0
