@@ -209,6 +209,8 @@ impl Board {
         ensures look { IfOk result (λ p. p.0 ≡ look_of self.new) }
         ensures cells { IfOk result (λ p. arc_value p.1 ≡ cells_in self.old.settings self.old.log) }
         ensures ticks { OnOk result (steps.new ≡ steps.old + leaves_copied self.old) }
+        ensures kept { is_kept_at (end_of self.old.log) self.old.kept_at ≡ true
+            → steps.new ≡ steps.old }
     {
         let catalog = self.share(alloc, steps)?;
         self.actors[actor as usize].pin = Some(self.end());
@@ -472,6 +474,8 @@ impl Board {
         ensures err { OnErr result (self.new ≡ self.old) }
         ensures cells { IfOk result (λ catalog. arc_value catalog ≡ cells_in self.old.settings self.old.log) }
         ensures ticks { OnOk result (steps.new ≡ steps.old + leaves_copied self.old) }
+        ensures kept { is_kept_at (end_of self.old.log) self.old.kept_at ≡ true
+            → steps.new ≡ steps.old }
     {
         if let Some(kept) = self.kept_now() {
             return Ok(Arc::try_clone(kept)?);
