@@ -5,7 +5,7 @@ use Rattle.mi_blink.specs.declared.post.Post.{Post}
 use Rattle.mi_blink.specs.declared.post.PostState.{PostState}
 use Rattle.mi_blink.specs.declared.post.PostState.TheVariants.{Looking, Posting, Allotting, Halving, Widening, Growing, Over}
 use Rattle.mi_blink.specs.declared.walk.Walk.{Walk}
-use Rattle.mi_blink.specs.Posting.{Begun, Ready, StateIsReady}
+use Rattle.mi_blink.specs.Posting.{Begun, Ready, StateIsReady, posted}
 use Rattle.mi_blink.specs.Walking.{Ready as WalkIsReady, so_far, whole}
 use Rattle.mi_world.specs.Pages.{IsChildAt}
 use Rattle.mi_world.proofs.ViewLemmas.{child_keeps, in_leaf_stays}
@@ -40,6 +40,9 @@ begun_ready op level key child v b h le = record {
   root_is = rw b.root_is tt;
   state = rw b.state_is tt;
 }
+
+pub begun_posted : (op : Post) (level key child : ℕ) → Begun op level key child → posted op ≡ child
+begun_posted op level key child b = rw b.waiting_is b.child_is
 
 pub walk_stays : (walk : Walk) (v w : View) → Others v w → WalkIsReady walk v → WalkIsReady walk w
 walk_stays walk v w o h = record {

@@ -7,7 +7,7 @@ use Rattle.mi_blink.specs.declared.post.PostState.{PostState}
 use Rattle.mi_blink.specs.declared.post.PostTurn.TheVariants.{More}
 use Rattle.mi_blink.specs.declared.post.Waiting.{Waiting}
 use Rattle.mi_blink.specs.Descents.{descent, Falls, IsRoot}
-use Rattle.mi_blink.specs.Posting.{Ready, StateIsReady, EachWaits, WaitFits, Turned, OwesOnly, Cause, Leads, left_in, left_waiting, pending, is_waiting, root_after}
+use Rattle.mi_blink.specs.Posting.{Ready, StateIsReady, EachWaits, WaitFits, Turned, OwesOnly, Cause, GoesOn, Leads, Makes, first_child, left_in, left_waiting, pending, is_waiting, posted, root_after}
 use Rattle.mi_world.proofs.ViewLemmas.{child_keeps}
 use Rattle.mi_blink.proofs.DescentLemmas.{reached_keeps, descent_keeps, falls_beside}
 
@@ -58,14 +58,26 @@ excused_before v w l h =
 pub owes_only_stays : (start more : ℕ → Bool) (v w : View) → Later v w → w.owes ≡ v.owes → OwesOnly start more v → OwesOnly start more w
 owes_only_stays start more v w l e h f p o = h (excused_before v w l f) p (subst (λ (g : ℕ → Bool). IsTrue (g p)) e o)
 
+-- the route that was put last waits before the one under way
+pub first_more : (ws : List Waiting) (x : Waiting) (child : ℕ) → first_child (ws ++ x ∷ []) child ≡ first_child ws x.child
+first_more [] x child = refl
+first_more (y ∷ ws) x child = refl
+
+-- the route under way goes on in this state
+pub on : (op : Post) (s t : PostState) (r : Option ℕ) → s ≡ t → GoesOn op t More (record { level = op.level; key = op.key; child = op.child; state = s; waiting = op.waiting; root = r })
+on op s t r e = record { turn_is = refl; level_is = refl; key_is = refl; child_is = refl; waiting_is = refl; state_is = e }
+
 -- a section that keeps the route under way
 pub goes_on : (op : Post) (v w : View) (s₀ s : PostState) (r : Option ℕ) → Ready op v → op.state ≡ s₀ → Later v w → SameWork v w → w.owes ≡ v.owes → IfSome r (IsRoot w) → r ≡ root_after s₀ op.root w
     → StateIsReady s op.level op.key w → Cause s op.level w → (IsTrue w.tells_full → Falls v (left_in s₀ op.level v) w (left_in s op.level w))
     → Leads s₀ op (record { level = op.level; key = op.key; child = op.child; state = s; waiting = op.waiting; root = r }) w
+    → Makes s₀ op v More (record { level = op.level; key = op.key; child = op.child; state = s; waiting = op.waiting; root = r }) w
     → Turned op v More (record { level = op.level; key = op.key; child = op.child; state = s; waiting = op.waiting; root = r }) w
-goes_on op v w s₀ s r ready e l k owes root latest state cause falls leads = record {
+goes_on op v w s₀ s r ready e l k owes root latest state cause falls leads makes = record {
   later = l;
   work = k;
+  makes = subst (λ x. Makes x op v More (record { level = op.level; key = op.key; child = op.child; state = s; waiting = op.waiting; root = r }) w) (sym e) makes;
+  posted_is = refl;
   owes = λ start h. owes_only_stays start (pending op) v w l owes h;
   root_is = root;
   latest = rw e latest;

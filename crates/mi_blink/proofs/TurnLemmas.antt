@@ -1,5 +1,5 @@
 -- The other sections of a post.
-use Rattle.std.proofs.Common.{◌≡◌, ℕ, ◌+◌, ◌*◌, ◌<◌, ◌≤◌, List, [], ◌∷◌, ◌++◌, length, Bool, true, false, ◌||◌, ◌&&◌, ◌==◌, not, IsTrue, cond, refl, sym, ◌∙◌, subst, arith, inl, inr, length-append, nat_lt, ap}
+use Rattle.std.proofs.Common.{◌≡◌, ℕ, ◌+◌, ◌*◌, ◌<◌, ◌≤◌, List, [], ◌∷◌, ◌++◌, length, Bool, true, false, ◌||◌, ◌&&◌, ◌==◌, not, IsTrue, cond, refl, sym, ◌∙◌, subst, arith, inl, inr, length-append, nat_lt, ap, eq-eqb}
 use Rattle.std.specs.Prelude.{is_some, IfSome, ◌⊎◌}
 use Rattle.std.proofs.lemmas.Bool.Decides.{nat_tests}
 use Rattle.std.proofs.Math.Nat.{mul-le-mul_right}
@@ -16,15 +16,26 @@ use Rattle.mi_blink.specs.declared.post.PostTurn.{PostTurn}
 use Rattle.mi_blink.specs.declared.post.PostTurn.TheVariants.{More, Done, Left, Memory}
 use Rattle.mi_blink.specs.declared.post.Waiting.{Waiting}
 use Rattle.mi_blink.specs.Descents.{longest, budget, Stands, Reached, post_most}
-use Rattle.mi_blink.specs.Posting.{Ready, EachWaits, WaitFits, Turned, OwesOnly, Leads, wants_page, Resumes, Ends, Pops, Waits, left, left_in, left_waiting, pending, is_waiting, root_after}
+use Rattle.mi_blink.specs.Posting.{Ready, EachWaits, WaitFits, Turned, OwesOnly, Leads, Makes, wants_page, Resumes, Ends, Pops, Waits, first_child, left, left_in, left_waiting, pending, is_waiting, posted, root_after}
 use Rattle.mi_world.proofs.ViewLemmas.{child_keeps}
 use Rattle.mi_blink.proofs.DescentLemmas.{reached_keeps, some_root_keeps, descent_keeps, descent_longest, budget_stays, budget_allots, budget_uses, falls_by, stands_at, stands_down, stands_right, down_less, right_less}
-use Rattle.mi_blink.proofs.PostLemmas.{goes_on, waits_keep, waiting_keeps, waits_front, waits_last, waits_more, waiting_more, is_waiting_last, excused_before}
+use Rattle.mi_blink.proofs.PostLemmas.{first_more, goes_on, on, waits_keep, waiting_keeps, waits_front, waits_last, waits_more, waiting_more, is_waiting_last, excused_before}
+
+and_none : (b : Bool) → (b && false) ≡ false
+and_none true = refl
+and_none false = refl
 
 pay : (a b s t : Bool) → (IsTrue a → IsTrue (s || (b || t))) → IsTrue (a && not b) → IsTrue (s || t)
 pay false b s t h o = cc
 pay true true s t h o = cc
 pay true false s t h o = h refl
+
+-- the route that was put is owed no more
+not_itself : (n : ℕ) → not (n == n) ≡ false
+not_itself n = ap not (eq-eqb n n refl)
+
+paid_off : (child : ℕ) (before after : ℕ → Bool) → after ≡ paying child before → after child ≡ false
+paid_off child before after e = ap (λ (g : ℕ → Bool). g child) e ∙ (ap (λ b. before child && b) (not_itself child) ∙ and_none (before child))
 
 -- what is left of the debts once the route under way has ended
 abbrev pub Rest : Post → View → View → Type 0
@@ -55,14 +66,16 @@ leads_wanting Over op new w r e = absurd cc
 
 module _ (op new : Post) (v w : View) (ready : Ready op v) (l : Later v w) (k : SameWork v w) (less : budget w ≤ budget v)
     (rest : (start : ℕ → Bool) → OwesOnly start (pending op) v → OwesOnly start (λ p. is_waiting p op.waiting.items) w) (unchanged : root_after op.state op.root w ≡ op.root) where
-  pub resumes : (r : Resumes op new) → Leads op.state op new w → Turned op v More new w
-  resumes r leads =
+  pub resumes : (r : Resumes op new) → Leads op.state op new w → Makes op.state op v More new w → Turned op v More new w
+  resumes r leads makes =
       let waits : EachWaits w 0 (r.waiting ++ r.below ∷ []) = rw (← r.waited) (waits_keep v w 0 op.waiting.items l ready.waits) in
       let last : WaitFits w (0 + length r.waiting) r.below = waits_last w 0 r.waiting r.below waits in
       let same : left_waiting w (r.waiting ++ r.below ∷ []) ≡ left_waiting v op.waiting.items = rw (← r.waited) (waiting_keeps v w 0 op.waiting.items l ready.waits) in
       record {
         later = l;
         work = k;
+        makes = makes;
+        posted_is = rw (r.child_is, r.waiting_is, r.waited) (sym (first_more r.waiting r.below op.child));
         owes = λ start h f p o. rw (r.child_is, r.waiting_is)
             (let g : IsTrue (start p || is_waiting p (r.waiting ++ r.below ∷ [])) = rw (← r.waited) (rest start h f p o) in
             let e = is_waiting_last p r.waiting r.below in grind (arith, e, g));
@@ -86,21 +99,30 @@ module _ (op new : Post) (v w : View) (ready : Ready op v) (l : Later v w) (k : 
   none_left : Ends op new → (start : ℕ → Bool) → OwesOnly start (pending op) v → OwesOnly start (λ p. false) w
   none_left e start h f p o = rw e.waited at (rest start h f p o)
 
-  pub ends_done : Ends op new → wants_page op.state ≡ false → Turned op v Done new w
-  ends_done e wants = record {
+  -- the post was for the route under way
+  same_posted : Ends op new → posted new ≡ posted op
+  same_posted e = rw (e.waiting_is, e.waited) e.child_is
+
+  pub ends_done : Ends op new → wants_page op.state ≡ false → w.owes op.child ≡ false → Makes op.state op v Done new w → Turned op v Done new w
+  ends_done e wants paid makes = record {
     later = l;
     work = k;
+    makes = makes;
+    posted_is = same_posted e;
     owes = none_left e;
     root_is = rw e.root_is (some_root_keeps v w op.root l ready.root_is);
     latest = e.root_is ∙ sym unchanged;
     cause = rw e.state_is tt;
-    outcome = (e.state_is, less, wants);
+    outcome = (e.state_is, less, wants, rw (e.waiting_is, e.child_is) paid);
   }
 
-  pub ends_left : (limit : ℕ) → Ends op new → wants_page op.state ≡ true → (limit ≡ w.settings.pages) × (w.allotted ≡ limit) × (is_some w.fresh ≡ false) × IsTrue w.told → Turned op v (Left limit) new w
-  ends_left limit e wants h = record {
+  pub ends_left : (limit : ℕ) → Ends op new → wants_page op.state ≡ true → (limit ≡ w.settings.pages) × (w.allotted ≡ limit) × (is_some w.fresh ≡ false) × IsTrue w.told
+      → Makes op.state op v (Left limit) new w → Turned op v (Left limit) new w
+  ends_left limit e wants h makes = record {
     later = l;
     work = k;
+    makes = makes;
+    posted_is = same_posted e;
     owes = none_left e;
     root_is = rw e.root_is (some_root_keeps v w op.root l ready.root_is);
     latest = e.root_is ∙ sym unchanged;
@@ -108,10 +130,12 @@ module _ (op new : Post) (v w : View) (ready : Ready op v) (l : Later v w) (k : 
     outcome = (e.state_is, h.0, h.1, h.2, h.3, less, record { wanted = wants; waiting_is = e.waited; fresh = h.2 });
   }
 
-  pub ends_memory : Ends op new → wants_page op.state ≡ true → IsTrue w.lacked × (is_some w.fresh ≡ false) → Turned op v Memory new w
-  ends_memory e wants h = record {
+  pub ends_memory : Ends op new → wants_page op.state ≡ true → IsTrue w.lacked × (is_some w.fresh ≡ false) → Makes op.state op v Memory new w → Turned op v Memory new w
+  ends_memory e wants h makes = record {
     later = l;
     work = k;
+    makes = makes;
+    posted_is = same_posted e;
     owes = none_left e;
     root_is = rw e.root_is (some_root_keeps v w op.root l ready.root_is);
     latest = e.root_is ∙ sym unchanged;
@@ -123,18 +147,21 @@ module _ (op new : Post) (v w : View) (ready : Ready op v) (l : Later v w) (k : 
   leads_on : wants_page op.state ≡ true → Resumes op new → Leads op.state op new w
   leads_on wants r = leads_wanting op.state op new w r wants
 
-  pub pops_done : (result : PostTurn) → (Resumes op new → Leads op.state op new w) → wants_page op.state ≡ false → Pops op Done result new → Turned op v result new w
-  pops_done result leads wants (inl r) = subst (λ t. Turned op v t new w) (sym r.1) (resumes r.0 (leads r.0))
-  pops_done result leads wants (inr e) = subst (λ t. Turned op v t new w) (sym e.1) (ends_done e.0 wants)
+  makes_at : (result turn : PostTurn) → result ≡ turn → Makes op.state op v result new w → Makes op.state op v turn new w
+  makes_at result turn e m = subst (λ t. Makes op.state op v t new w) e m
+
+  pub pops_done : (result : PostTurn) → (Resumes op new → Leads op.state op new w) → wants_page op.state ≡ false → w.owes op.child ≡ false → Makes op.state op v result new w → Pops op Done result new → Turned op v result new w
+  pops_done result leads wants paid makes (inl r) = subst (λ t. Turned op v t new w) (sym r.1) (resumes r.0 (leads r.0) (makes_at result More r.1 makes))
+  pops_done result leads wants paid makes (inr e) = subst (λ t. Turned op v t new w) (sym e.1) (ends_done e.0 wants paid (makes_at result Done e.1 makes))
 
   pub pops_left : (limit : ℕ) (result : PostTurn) → wants_page op.state ≡ true → (limit ≡ w.settings.pages) × (w.allotted ≡ limit) × (is_some w.fresh ≡ false) × IsTrue w.told
-      → Pops op (Left limit) result new → Turned op v result new w
-  pops_left limit result wants h (inl r) = subst (λ t. Turned op v t new w) (sym r.1) (resumes r.0 (leads_on wants r.0))
-  pops_left limit result wants h (inr e) = subst (λ t. Turned op v t new w) (sym e.1) (ends_left limit e.0 wants h)
+      → Makes op.state op v result new w → Pops op (Left limit) result new → Turned op v result new w
+  pops_left limit result wants h makes (inl r) = subst (λ t. Turned op v t new w) (sym r.1) (resumes r.0 (leads_on wants r.0) (makes_at result More r.1 makes))
+  pops_left limit result wants h makes (inr e) = subst (λ t. Turned op v t new w) (sym e.1) (ends_left limit e.0 wants h (makes_at result (Left limit) e.1 makes))
 
-  pub pops_memory : (result : PostTurn) → wants_page op.state ≡ true → IsTrue w.lacked × (is_some w.fresh ≡ false) → Pops op Memory result new → Turned op v result new w
-  pops_memory result wants h (inl r) = subst (λ t. Turned op v t new w) (sym r.1) (resumes r.0 (leads_on wants r.0))
-  pops_memory result wants h (inr e) = subst (λ t. Turned op v t new w) (sym e.1) (ends_memory e.0 wants h)
+  pub pops_memory : (result : PostTurn) → wants_page op.state ≡ true → IsTrue w.lacked × (is_some w.fresh ≡ false) → Makes op.state op v result new w → Pops op Memory result new → Turned op v result new w
+  pops_memory result wants h makes (inl r) = subst (λ t. Turned op v t new w) (sym r.1) (resumes r.0 (leads_on wants r.0) (makes_at result More r.1 makes))
+  pops_memory result wants h makes (inr e) = subst (λ t. Turned op v t new w) (sym e.1) (ends_memory e.0 wants h (makes_at result Memory e.1 makes))
 
 full_none : (b : Bool) → IsTrue b → cond b 0 2 ≤ 0
 full_none true h = omega arith
@@ -157,31 +184,31 @@ module _ (op : Post) (v w : View) (page : ℕ) (ready : Ready op v) (state : op.
   posts_down q k = goes_on op v w (Posting page) (Posting q) op.root ready state k.later k.work k.answer.0 (some_root_keeps v w op.root k.later ready.root_is) refl
       (stands_down v w page q op.level op.key stands.small k.answer.1) tt
       (λ _. falls_by v w _ _ k.later k.fresh (omega (arith, down_less v w page q op.level op.key stands.small k.answer.1)))
-      tt
+      tt (put.Down q, k, on op (Posting q) (Posting q) op.root refl)
 
   pub posts_right : (q : ℕ) → Posts v w page op.level op.key op.child (put.Right q) → Turned op v More (record { level = op.level; key = op.key; child = op.child; state = Posting q; waiting = op.waiting; root = op.root }) w
   posts_right q k = goes_on op v w (Posting page) (Posting q) op.root ready state k.later k.work k.answer.0 (some_root_keeps v w op.root k.later ready.root_is) refl
       (stands_right v w page q op.level op.key stands.small k.answer.1) tt
       (λ _. falls_by v w _ _ k.later k.fresh (omega (arith, right_less v w page q op.level op.key k.answer.1)))
-      tt
+      tt (put.Right q, k, on op (Posting q) (Posting q) op.root refl)
 
   pub posts_full : Posts v w page op.level op.key op.child put.PageFull → is_some w.fresh ≡ true
       → Turned op v More (record { level = op.level; key = op.key; child = op.child; state = Halving page; waiting = op.waiting; root = op.root }) w
   posts_full k f = goes_on op v w (Posting page) (Halving page) op.root ready state k.later k.work k.answer.0 (some_root_keeps v w op.root k.later ready.root_is) refl
       (still k.later k.answer.1, f) tt
       (λ t. falls_by v w _ _ k.later k.fresh (omega (arith, descent_keeps v w page k.later stands.named, full_none (w.full page) (k.answer.2.told_full t))))
-      tt
+      tt (put.PageFull, k, on op (Halving page) (cond (is_some w.fresh) (Halving page) (Allotting page)) op.root (ap (λ b. cond b (Halving page) (Allotting page)) (sym f)))
 
   pub posts_wanting : Posts v w page op.level op.key op.child put.PageFull → is_some w.fresh ≡ false
       → Turned op v More (record { level = op.level; key = op.key; child = op.child; state = Allotting page; waiting = op.waiting; root = op.root }) w
   posts_wanting k f = goes_on op v w (Posting page) (Allotting page) op.root ready state k.later k.work k.answer.0 (some_root_keeps v w op.root k.later ready.root_is) refl
       (still k.later k.answer.1, f) (k.page_is, k.answer.2.many, f)
       (λ t. falls_by v w _ _ k.later k.fresh (omega (arith, descent_keeps v w page k.later stands.named)))
-      tt
+      tt (put.PageFull, k, on op (Allotting page) (cond (is_some w.fresh) (Halving page) (Allotting page)) op.root (ap (λ b. cond b (Halving page) (Allotting page)) (sym f)))
 
   pub posts_done : (new : Post) (result : PostTurn) → Posts v w page op.level op.key op.child put.Done → Pops op Done result new → Turned op v result new w
   posts_done new result k p = pops_done op new v w ready k.later k.work (budget_stays v w k.later k.fresh) (rest_paid op v w k.later k.answer.0) (rw state refl)
-      result (λ r. rw state tt) (rw state refl) p
+      result (λ r. rw state tt) (rw state refl) (paid_off op.child v.owes w.owes k.answer.0) (subst (λ x. Makes x op v result new w) (sym state) (put.Done, k, p)) p
 
 -- a page is allotted
 module _ (op : Post) (v w : View) (page : ℕ) (ready : Ready op v) (state : op.state ≡ Allotting page) where
@@ -192,14 +219,15 @@ module _ (op : Post) (v w : View) (page : ℕ) (ready : Ready op v) (state : op.
   allots u k = goes_on op v w (Allotting page) (Halving page) op.root ready state k.later k.work k.owes (some_root_keeps v w op.root k.later ready.root_is) refl
       (reached_keeps v w page op.level op.key k.later wanting.0, k.answer.0) tt
       (λ _. inl (budget_allots v w k.later wanting.1 k.answer.0 k.answer.1 k.board.few))
-      (λ none. k.answer.0)
+      (λ none. k.answer.0) (Rattle.std.specs.Prelude.Ok u, k, on op (Halving page) (Halving page) op.root refl)
 
   pub allots_none : (new : Post) (result : PostTurn) (limit : ℕ) → Allots v w (Rattle.std.specs.Prelude.Err (allot.PagesFull limit)) → Pops op (Left limit) result new → Turned op v result new w
   allots_none new result limit k p = pops_left op new v w ready k.later k.work (budget_stays v w k.later k.answer.0) (rest_told op v w k.answer.3) (rw state refl)
-      limit result (rw state refl) (k.answer.1, k.answer.2, ap is_some k.answer.0 ∙ wanting.1, k.answer.3) p
+      limit result (rw state refl) (k.answer.1, k.answer.2, ap is_some k.answer.0 ∙ wanting.1, k.answer.3) (subst (λ x. Makes x op v result new w) (sym state) (Rattle.std.specs.Prelude.Err (allot.PagesFull limit), k, p)) p
 
   pub allots_memory : (new : Post) (result : PostTurn) → Allots v w (Rattle.std.specs.Prelude.Err allot.Memory) → Pops op Memory result new → Turned op v result new w
-  allots_memory new result k p = pops_memory op new v w ready k.later k.work (budget_stays v w k.later k.answer.0) (rest_lacked op v w k.answer.1) (rw state refl) result (rw state refl) (k.answer.1, ap is_some k.answer.0 ∙ wanting.1) p
+  allots_memory new result k p = pops_memory op new v w ready k.later k.work (budget_stays v w k.later k.answer.0) (rest_lacked op v w k.answer.1) (rw state refl) result (rw state refl) (k.answer.1, ap is_some k.answer.0 ∙ wanting.1)
+      (subst (λ x. Makes x op v result new w) (sym state) (Rattle.std.specs.Prelude.Err allot.Memory, k, p)) p
 
 -- a page is allotted for a new root
 module _ (op : Post) (v w : View) (ready : Ready op v) (state : op.state ≡ Widening) where
@@ -209,14 +237,15 @@ module _ (op : Post) (v w : View) (ready : Ready op v) (state : op.state ≡ Wid
   pub widens : (u : Unit {0}) → Allots v w (Rattle.std.specs.Prelude.Ok u) → Turned op v More (record { level = op.level; key = op.key; child = op.child; state = Growing; waiting = op.waiting; root = op.root }) w
   widens u k = goes_on op v w Widening Growing op.root ready state k.later k.work k.owes (some_root_keeps v w op.root k.later ready.root_is) refl k.answer.0 tt
       (λ _. inl (budget_allots v w k.later bare k.answer.0 k.answer.1 k.board.few))
-      (λ none. k.answer.0)
+      (λ none. k.answer.0) (Rattle.std.specs.Prelude.Ok u, k, on op Growing Growing op.root refl)
 
   pub widens_none : (new : Post) (result : PostTurn) (limit : ℕ) → Allots v w (Rattle.std.specs.Prelude.Err (allot.PagesFull limit)) → Pops op (Left limit) result new → Turned op v result new w
   widens_none new result limit k p = pops_left op new v w ready k.later k.work (budget_stays v w k.later k.answer.0) (rest_told op v w k.answer.3) (rw state refl)
-      limit result (rw state refl) (k.answer.1, k.answer.2, ap is_some k.answer.0 ∙ bare, k.answer.3) p
+      limit result (rw state refl) (k.answer.1, k.answer.2, ap is_some k.answer.0 ∙ bare, k.answer.3) (subst (λ x. Makes x op v result new w) (sym state) (Rattle.std.specs.Prelude.Err (allot.PagesFull limit), k, p)) p
 
   pub widens_memory : (new : Post) (result : PostTurn) → Allots v w (Rattle.std.specs.Prelude.Err allot.Memory) → Pops op Memory result new → Turned op v result new w
-  widens_memory new result k p = pops_memory op new v w ready k.later k.work (budget_stays v w k.later k.answer.0) (rest_lacked op v w k.answer.1) (rw state refl) result (rw state refl) (k.answer.1, ap is_some k.answer.0 ∙ bare) p
+  widens_memory new result k p = pops_memory op new v w ready k.later k.work (budget_stays v w k.later k.answer.0) (rest_lacked op v w k.answer.1) (rw state refl) result (rw state refl) (k.answer.1, ap is_some k.answer.0 ∙ bare)
+      (subst (λ x. Makes x op v result new w) (sym state) (Rattle.std.specs.Prelude.Err allot.Memory, k, p)) p
 
 two : (b : Bool) → b ≡ false → cond b 4 2 ≤ 2
 two true e = cc
@@ -230,14 +259,15 @@ module _ (op : Post) (v w : View) (ready : Ready op v) (state : op.state ≡ Gro
   pub grows : (new : Post) (result : PostTurn) → Grew v w op.level op.child true → Pops op Done result new → Turned op v result new w
   grows new result k p =
       let less : budget w < budget v = budget_uses v w k.later held k.answer.2 in
-      pops_done op new v w ready k.later k.work (omega arith) (rest_paid op v w k.later k.answer.3) (rw state refl) result (λ r. rw state tt) (rw state refl) p
+      pops_done op new v w ready k.later k.work (omega arith) (rest_paid op v w k.later k.answer.3) (rw state refl) result (λ r. rw state tt) (rw state refl)
+      (paid_off op.child v.owes w.owes k.answer.3) (subst (λ x. Makes x op v result new w) (sym state) (true, k, p)) p
 
   pub grows_not : Grew v w op.level op.child false → Turned op v More (record { level = op.level; key = op.key; child = op.child; state = Looking; waiting = op.waiting; root = op.root }) w
   grows_not k =
       let high : nat_lt w.least op.level ≡ false = let h = k.answer.3 in grind (arith, nat_tests) in
       goes_on op v w Growing Looking op.root ready state k.later k.work k.answer.2 (some_root_keeps v w op.root k.later ready.root_is) refl tt tt
       (λ _. falls_by v w _ _ k.later k.answer.1 (omega (arith, two (nat_lt w.least op.level) high)))
-      tt
+      tt (false, k, on op Looking Looking op.root refl)
 
 owe : (a b s t u : Bool) → (IsTrue a → IsTrue (s || (t || u))) → IsTrue (a || b) → IsTrue (s || (b || (u || t)))
 owe a true true t u h o = refl
@@ -263,7 +293,7 @@ module _ (op : Post) (v w : View) (page : ℕ) (ready : Ready op v) (state : op.
       (stands_at w page op.level op.key (reached_keeps v w page op.level op.key k.later full_page.0)) tt
       (λ t. falls_by v w _ _ k.later k.answer.0
       (omega (arith, descent_keeps v w page k.later full_page.0.named, two_full (v.full page) (k.answer.3 (rw (← k.later.tells_full) t)))))
-      tt
+      tt (part.Roomy, k, on op (Posting page) (Posting page) op.root refl)
 
   pub halves : (new : Post) (key child : ℕ) → PartsPage v w page (part.Parted key child) → Waits op page key child new → Turned op v More new w
   halves new key child k r =
@@ -274,6 +304,8 @@ module _ (op : Post) (v w : View) (page : ℕ) (ready : Ready op v) (state : op.
       record {
         later = k.later;
         work = k.work;
+        makes = subst (λ x. Makes x op v More new w) (sym state) (part.Parted key child, k, (r, refl));
+        posted_is = rw (r.child_is, r.waiting_is) (first_more op.waiting.items x child);
         owes = λ start h f p o. rw (r.child_is, r.waiting_is, is_waiting_last p op.waiting.items x)
             (owe (v.owes p) (p == child) (start p) (p == op.child) (is_waiting p op.waiting.items) (h (excused_before v w k.later f) p) (subst (λ (g : ℕ → Bool). IsTrue (g p)) a.1 o));
         root_is = rw r.root_is (some_root_keeps v w op.root k.later ready.root_is);

@@ -1,6 +1,13 @@
 -- A post between its sections, and what a section of it does.
-use Rattle.std.specs.Prelude.{is_some, ◌≡◌, ◌≤◌, ◌<◌, ◌+◌, ◌*◌, ◌==◌, ◌||◌, ◌∷◌, ◌++◌, [], ℕ, List, Option, Some, None, Bool, true, false, IsTrue, IfSome, length, cond, nat_lt, ◌⊎◌}
+use Rattle.std.specs.Prelude.{is_some, ◌≡◌, ◌≤◌, ◌<◌, ◌+◌, ◌*◌, ◌==◌, ◌||◌, ◌∷◌, ◌++◌, [], ℕ, List, Option, Some, None, Bool, true, false, IsTrue, IfSome, Result, Ok, Err, length, cond, nat_lt, ◌⊎◌}
 use Rattle.std.specs.List.{list_any}
+use Rattle.mi_tree.specs.declared.answers.AllotRefusal.{AllotRefusal}
+use Rattle.mi_tree.specs.declared.answers.AllotRefusal.TheVariants as allot
+use Rattle.mi_tree.specs.declared.answers.Look.{Look}
+use Rattle.mi_world.specs.declared.answers.Parted.{Parted}
+use Rattle.mi_world.specs.declared.answers.Parted.TheVariants as part
+use Rattle.mi_world.specs.declared.answers.Put.{Put}
+use Rattle.mi_world.specs.declared.answers.Put.TheVariants as put
 use Rattle.mi_blink.specs.declared.post.Post.{Post}
 use Rattle.mi_blink.specs.declared.post.PostState.{PostState}
 use Rattle.mi_blink.specs.declared.post.PostState.TheVariants.{Looking, Posting, Allotting, Halving, Widening, Growing, Over}
@@ -8,7 +15,8 @@ use Rattle.mi_blink.specs.declared.post.PostTurn.{PostTurn}
 use Rattle.mi_blink.specs.declared.post.PostTurn.TheVariants.{More, Done, Left, Memory}
 use Rattle.mi_blink.specs.declared.post.Waiting.{Waiting}
 use Rattle.mi_blink.specs.Descents.{IsRoot, Stands, Reached, Falls, budget, descent, longest}
-use Rattle.mi_world.specs.Pages.{IsChildAt}
+use Rattle.mi_world.specs.Boards.{Allots, Grew, Looks}
+use Rattle.mi_world.specs.Pages.{IsChildAt, PartsPage, Posts}
 use Rattle.mi_world.specs.View.{View, Later, SameWork}
 
 -- a post of this route before its first section
@@ -36,6 +44,7 @@ pub record Resumes (old new : Post) : Type 0 where
 pub record Ends (old new : Post) : Type 0 where
   pub waited : old.waiting.items ≡ []
   pub waiting_is : new.waiting.items ≡ []
+  pub child_is : new.child ≡ old.child
   pub state_is : new.state ≡ Over
   pub root_is : new.root ≡ old.root
 
@@ -102,6 +111,14 @@ pending_after Done op p = false
 pending_after (Left limit) op p = false
 pending_after Memory op p = false
 
+-- the child whose route the post is for: that of the first route that waits, and of the one under way where none does
+abbrev pub first_child : List Waiting → ℕ → ℕ
+first_child [] child = child
+first_child (w ∷ ws) child = w.child
+
+abbrev pub posted : Post → ℕ
+posted op = first_child op.waiting.items op.child
+
 -- Unless it was told that all pages are allotted, or memory was wanted for a page, no route is owed but of these children or of those.
 abbrev pub OwesOnly : (ℕ → Bool) → (ℕ → Bool) → View → Type 0
 OwesOnly start more v = (v.told || v.lacked) ≡ false → (p : ℕ) → IsTrue (v.owes p) → IsTrue (start p || more p)
@@ -152,16 +169,62 @@ Leads Widening old new w = old.waiting.items ≡ [] → is_some w.fresh ≡ true
 Leads Growing old new w = Unit {0}
 Leads Over old new w = ⊥
 
+-- the route under way goes on in this state
+pub record GoesOn (old : Post) (state : PostState) (turn : PostTurn) (new : Post) : Type 0 where
+  pub turn_is : turn ≡ More
+  pub level_is : new.level ≡ old.level
+  pub key_is : new.key ≡ old.key
+  pub child_is : new.child ≡ old.child
+  pub waiting_is : new.waiting ≡ old.waiting
+  pub state_is : new.state ≡ state
+
+-- where a look leads: down from the root, or to a new root where that is too low
+abbrev pub after_look : Look → ℕ → View → PostState
+after_look look level w = cond (nat_lt look.height level) (cond (is_some w.fresh) Growing Widening) (Posting look.root)
+
+-- where the answer of a section at a page leads: a full page has to be halved first, for which a fresh page is wanted
+abbrev pub AfterPut : Put → ℕ → Post → PostTurn → Post → View → Type 0
+AfterPut (put.Down p) page old turn new w = GoesOn old (Posting p) turn new
+AfterPut (put.Right p) page old turn new w = GoesOn old (Posting p) turn new
+AfterPut put.PageFull page old turn new w = GoesOn old (cond (is_some w.fresh) (Halving page) (Allotting page)) turn new
+AfterPut put.Done page old turn new w = Pops old Done turn new
+
+-- a page was allotted, or the route under way has ended without it
+abbrev pub AfterAllot : Result (Unit {0}) AllotRefusal → PostState → Post → PostTurn → Post → Type 0
+AfterAllot (Ok _) state old turn new = GoesOn old state turn new
+AfterAllot (Err (allot.PagesFull limit)) state old turn new = Pops old (Left limit) turn new
+AfterAllot (Err allot.Memory) state old turn new = Pops old Memory turn new
+
+-- the page was halved, and the route of its upper half is posted first; or it wasn't full any more
+abbrev pub AfterHalf : Parted → ℕ → Post → PostTurn → Post → Type 0
+AfterHalf (part.Parted key child) page old turn new = Waits old page key child new × (turn ≡ More)
+AfterHalf part.Roomy page old turn new = GoesOn old (Posting page) turn new
+
+-- the root grew by the route, or another one had grown
+abbrev pub AfterGrow : Bool → Post → PostTurn → Post → Type 0
+AfterGrow true old turn new = Pops old Done turn new
+AfterGrow false old turn new = GoesOn old Looking turn new
+
+-- the section that each state makes of the actor, and where its answer leads
+abbrev pub Makes : PostState → Post → View → PostTurn → Post → View → Type 0
+Makes Looking old v turn new w = (look : Look) × Looks v w look × GoesOn old (after_look look old.level w) turn new
+Makes (Posting page) old v turn new w = (answer : Put) × Posts v w page old.level old.key old.child answer × AfterPut answer page old turn new w
+Makes (Allotting page) old v turn new w = (answer : Result (Unit {0}) AllotRefusal) × Allots v w answer × AfterAllot answer (Halving page) old turn new
+Makes (Halving page) old v turn new w = (answer : Parted) × PartsPage v w page answer × AfterHalf answer page old turn new
+Makes Widening old v turn new w = (answer : Result (Unit {0}) AllotRefusal) × Allots v w answer × AfterAllot answer Growing old turn new
+Makes Growing old v turn new w = (answer : Bool) × Grew v w old.level old.child answer × AfterGrow answer old turn new
+Makes Over old v turn new w = ⊥
+
 -- the refusal of a page ends the post where that was wanted for the route that the post is for
 pub record LacksPage (old : Post) (w : View) : Type 0 where
   pub wanted : wants_page old.state ≡ true
   pub waiting_is : old.waiting.items ≡ []
   pub fresh : is_some w.fresh ≡ false
 
--- what each answer says
+-- What each answer says. The route that the post is for isn't owed any more where it is done, whatever was refused on the way.
 abbrev pub Outcome : Post → View → PostTurn → Post → View → Type 0
 Outcome old v More new w = Ready new w × (IsTrue w.tells_full → Falls v (left old v) w (left new w)) × Leads old.state old new w
-Outcome old v Done new w = (new.state ≡ Over) × (budget w ≤ budget v) × (wants_page old.state ≡ false)
+Outcome old v Done new w = (new.state ≡ Over) × (budget w ≤ budget v) × (wants_page old.state ≡ false) × (w.owes (posted new) ≡ false)
 Outcome old v (Left limit) new w =
     (new.state ≡ Over) × (limit ≡ w.settings.pages) × (w.allotted ≡ limit) × (is_some w.fresh ≡ false) × IsTrue w.told × (budget w ≤ budget v) × LacksPage old w
 Outcome old v Memory new w = (new.state ≡ Over) × IsTrue w.lacked × (budget w ≤ budget v) × LacksPage old w
@@ -175,6 +238,8 @@ root_after state root w = root
 pub record Turned (old : Post) (v : View) (turn : PostTurn) (new : Post) (w : View) : Type 0 where
   pub later : Later v w
   pub work : SameWork v w
+  pub makes : Makes old.state old v turn new w
+  pub posted_is : posted new ≡ posted old
   pub owes : (start : ℕ → Bool) → OwesOnly start (pending old) v → OwesOnly start (pending_after turn new) w
   pub root_is : IfSome new.root (IsRoot w)
   pub latest : new.root ≡ root_after old.state old.root w

@@ -11,7 +11,7 @@ ghost use Rattle.mi_world.specs.View.{Others, View};
 ghost use Rattle.mi_blink.specs.declared.post.Post.{Post as APost};
 ghost use Rattle.mi_blink.specs.declared.walk.Walk.{Walk as AWalk};
 ghost use Rattle.mi_blink.specs.Descents.{Falls, budget, descent, longest, post_most};
-ghost use Rattle.mi_blink.specs.Posting.{Begun, Ready as PostIsReady, left};
+ghost use Rattle.mi_blink.specs.Posting.{Begun, Ready as PostIsReady, left, posted};
 ghost use Rattle.mi_blink.specs.Walking.{Ready as WalkIsReady, so_far, whole};
 
 /// A walk that stands at a root was offered nothing yet.
@@ -34,6 +34,11 @@ pub fn descents_end()
 /// A post of a child's route begins ready.
 pub fn posts_begin()
     ensures { (op : APost) (level key child : ℕ) (v : View) → Begun op level key child → IsChildAt v level key child → level ≤ 6 → PostIsReady op v }
+{}
+
+/// A post is for the child that it was made with.
+pub fn posts_begin_with_their_child()
+    ensures { (op : APost) (level key child : ℕ) → Begun op level key child → posted op ≡ child }
 {}
 
 /// While others act a post stays ready.
