@@ -1,5 +1,5 @@
 -- The event that each copy is, and each taking back of one, by its answer, and what the trait tells of it.
-use Rattle.std.proofs.Common.{◌≡◌, ◌∙◌, ℕ, List, ◌+◌, ◌-◌, ◌<◌, ◌≤◌, Bool, cond, true, length, ap, arith, refl, subst, sym, Some}
+use Rattle.std.proofs.Common.{◌≡◌, ◌∙◌, ℕ, List, ◌+◌, ◌-◌, ◌<◌, ◌≤◌, Bool, cond, true, length, ap, refl, subst, sym}
 use Rattle.std.specs.Prelude.{slice_get}
 use Rattle.std.proofs.lemmas.Option.{get_or_from_slice_get}
 use Rattle.mi_core.specs.Actors.{made_by}
@@ -7,8 +7,7 @@ use Rattle.mi_core.specs.Effects.{drop_entry, put_entry, trim_leaf}
 use Rattle.mi_core.specs.Events.{Can, after, copied_of, copied_to, first_actor, with_split_at}
 use Rattle.mi_core.specs.Events.Event.{copy_in, uncopy, visit}
 use Rattle.mi_core.specs.Kept.{Kept}
-use Rattle.mi_core.specs.Pages.{node_or_fresh}
-use Rattle.mi_core.specs.State.{State, node_at, put_actor, put_page}
+use Rattle.mi_core.specs.State.{State, put_actor, put_page}
 use Rattle.mi_base.specs.Configuration.{Configuration}
 use Rattle.mi_base.specs.History.{Entered}
 use Rattle.mi_entries.specs.Actors.{Actor}
@@ -21,7 +20,7 @@ use Rattle.mi_world.specs.Splits.{CopiesIn, IsGathered, Uncopies, last_copy, nex
 use Rattle.mi_solo.specs.declared.cores.Core.{Core}
 use Rattle.mi_solo.specs.declared.rows.ActorRow.{ActorRow}
 use Rattle.mi_solo.specs.LeafRows.{CopiesRow, PutsCopy, TakesBack, UncopiesRow}
-use Rattle.mi_solo.specs.OnPages.{OnPage, TurnsPage, record_of}
+use Rattle.mi_solo.specs.OnPages.{OnPage, record_of}
 use Rattle.mi_solo.specs.Seeking.{EndsAfter, PointsDown, PointsRight}
 use Rattle.mi_solo.specs.States.{Does, IsGoing, actor_in, actor_of, node_in, state_of, view_in}
 use Rattle.mi_solo.specs.Viewing.{shown_to}

@@ -1,8 +1,8 @@
 -- What an insert may rely on of what is in hand.
-use Rattle.std.proofs.Common.{◌≡◌, ◌⊎◌, ⊎_elim, ℕ, ℤ, ◌+◌, ◌<◌, ◌≤◌, ◌==◌, ◌^◌, List, [], ◌∷◌, length, true, false, IsTrue, refl, sym, ap, ◌∙◌, subst, arith, Option, Some, None}
+use Rattle.std.proofs.Common.{◌≡◌, ◌⊎◌, ℕ, ℤ, ◌<◌, ◌≤◌, ◌==◌, ◌^◌, List, length, true, false, refl, sym, ap, ◌∙◌, subst, Option, Some, None}
 use Rattle.std.specs.Prelude.{IsSome}
 use Rattle.std.specs.List.{find}
-use Rattle.mi_base.specs.Configuration.{Configuration, space_of}
+use Rattle.mi_base.specs.Configuration.{space_of}
 use Rattle.mi_base.specs.History.{updates_of}
 use Rattle.mi_base.specs.Permutations.{distances, key_distance, permutation_of}
 use Rattle.mi_base.specs.Prefixes.{all_below}
@@ -15,7 +15,7 @@ use Rattle.mi_core.specs.State.{State}
 use Rattle.mi_core.proofs.RefusalLemmas.{room_or_full}
 use Rattle.mi_entries.specs.Actors.{Actor}
 use Rattle.mi_entries.specs.Entries.{grid}
-use Rattle.mi_entries.specs.Records.{Rows, home, shard_at}
+use Rattle.mi_entries.specs.Records.{Rows, home}
 use Rattle.mi_key.specs.declared.entries.Entry.{Entry}
 use Rattle.mi_page.specs.Entries.{has_entry, without_dead}
 use Rattle.mi_page.specs.Nodes.{Node, item_count}
@@ -30,7 +30,7 @@ use Rattle.mi_solo.proofs.RouteLaws.{full_kept}
 use Rattle.mi_world.specs.LeafKeys.{key_under}
 use Rattle.mi_world.specs.Pages.{MayInsert, insert_key, next_number}
 use Rattle.mi_world.specs.View.{View, prefix_or}
-use Rattle.mi_solo.specs.CommitRows.{IsAtHand, IsMade, MayEnter, key_in_row, next_birth}
+use Rattle.mi_solo.specs.CommitRows.{IsMade, MayEnter, key_in_row, next_birth}
 
 module _ (a page id : ℕ) (vector : List ℤ) (dists : List ℕ) (b : BoardState) (n : Node) (rows : Rows) (row : ActorRow) (m : MayEnter a page id vector dists b n rows row) where
   abbrev s : State

@@ -1,5 +1,5 @@
 -- What the commit of an insert owes to the board, the page and the shard, and what it makes of the state.
-use Rattle.std.proofs.Common.{◌≡◌, ◌≢◌, ℕ, ℤ, ◌+◌, ◌<◌, ◌≤◌, ◌==◌, ◌^◌, List, [], ◌∷◌, ◌++◌, length, get_or, set, Bool, false, cond, refl, sym, ap, ◌∙◌, subst, arith, Some, None, Err, append-nil, eq-eqb}
+use Rattle.std.proofs.Common.{◌≡◌, ◌≢◌, ℕ, ℤ, ◌<◌, ◌≤◌, ◌==◌, List, [], ◌∷◌, ◌++◌, length, Bool, false, cond, refl, sym, ap, ◌∙◌, subst, arith, Err, append-nil, eq-eqb}
 use Rattle.std.proofs.lemmas.Bool.{false≢true, ne_eqb}
 use Rattle.std.proofs.lemmas.List.{length-map}
 use Rattle.std.proofs.lemmas.List.Elements.{filter-append}
@@ -15,29 +15,8 @@ use Rattle.mi_board.proofs.CrowdLemmas.{crowded_one}
 use Rattle.mi_board.specs.Boards.{BoardState, Commits, HasRoom, cells_in, crowded_at}
 use Rattle.mi_core.specs.Actors.{made_by}
 use Rattle.mi_core.specs.Effects.{trim_leaf, trim_node}
-use Rattle.mi_base.specs.declared.records.Update.TheVariants.{Insert}
-use Rattle.mi_base.specs.History.{updates_of}
-use Rattle.mi_base.specs.Sorting.{put}
-use Rattle.mi_core.specs.Effects.{committed, put_entry, with_update}
-use Rattle.mi_core.specs.Events.{CanInsert}
-use Rattle.mi_core.specs.Events.Event.{insert}
-use Rattle.mi_core.specs.Kept.{Kept}
-use Rattle.mi_core.specs.Pages.{node_or_fresh}
-use Rattle.mi_core.specs.State.{State, node_at}
-use Rattle.mi_entries.specs.Actors.{Actor}
 use Rattle.mi_entries.specs.Entries.{grid}
-use Rattle.mi_entries.specs.Records.{Shard, ShardRecord, held_by, home, no_shard, shard_at, with_record}
-use Rattle.mi_page.specs.Entries.{entry_cmp, entry_keys, has_entry, without_dead}
-use Rattle.mi_solo.specs.declared.cores.Core.{Core}
-use Rattle.mi_solo.specs.declared.rows.ActorRow.{ActorRow}
-use Rattle.mi_solo.specs.Seeking.{EndsAfter}
-use Rattle.mi_solo.specs.States.{Does, actor_in, actor_of, actors_of, node_in, state_of, view_in}
-use Rattle.mi_solo.proofs.CanLemmas.{can_insert, insert_absent}
-use Rattle.mi_solo.proofs.CoreLemmas.{comes_to, read_is, row_is, suits, there}
-use Rattle.mi_world.specs.declared.answers.Commit.{Commit}
-use Rattle.mi_world.specs.declared.answers.Commit.TheVariants as commit
-use Rattle.mi_world.specs.Pages.{MayInsert, insert_key, next_number}
-use Rattle.mi_key.specs.declared.entries.Entry.{Entry}
+use Rattle.mi_page.specs.Entries.{entry_keys}
 use Rattle.mi_page.specs.Nodes.{IsNode, Node, item_count}
 use Rattle.mi_tree.specs.declared.answers.CommitRefusal.{CommitRefusal}
 use Rattle.mi_tree.specs.declared.answers.CommitRefusal.TheVariants.{Full, Crowded}

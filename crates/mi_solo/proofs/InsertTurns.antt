@@ -1,9 +1,9 @@
 -- Which event the commit of an insert is: of any state that has in hand what it has.
-use Rattle.std.proofs.Common.{◌≡◌, ◌≢◌, ℕ, ℤ, ◌++◌, [], ◌∷◌, ◌<◌, ◌≤◌, ◌^◌, List, length, set, true, false, refl, sym, ap, ◌∙◌, subst, Option, Some, None}
+use Rattle.std.proofs.Common.{◌≡◌, ◌≢◌, ℕ, ℤ, ◌<◌, ◌≤◌, ◌^◌, List, length, set, false, refl, sym, ap, ◌∙◌, subst, Option, Some, None}
 use Rattle.std.specs.Prelude.{slice_get}
 use Rattle.std.proofs.lemmas.List.{set-get_or}
 use Rattle.std.proofs.lemmas.Option.{get_or_from_slice_get}
-use Rattle.mi_base.specs.History.{Entered, updates_of}
+use Rattle.mi_base.specs.History.{Entered}
 use Rattle.mi_base.specs.declared.records.Update.{Update}
 use Rattle.mi_base.specs.declared.records.Update.TheVariants.{Insert}
 use Rattle.mi_board.specs.Boards.{BoardState}

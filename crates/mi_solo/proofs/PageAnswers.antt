@@ -92,9 +92,11 @@ module _ (c d : Core) (a : ℕ) (k : Kept (state_of c)) (g : IsGoing c a) (page 
   trims_are leaf (Read next) x =
       let s = state_of c in
       let same : node_in s page ≡ x.was = ap node_or_fresh x.there in
-      subst (λ m. Does s a (trim page m) (state_of d) × TrimsTo m next) (sym same)
-      (page_does s a page (state_of d) x (trim page x.was)
-      (trim_is s a page x.was x.new x.there s.board.settings (made_by a s.board.log) x.row x.made (ap (λ (m : Node). m.level) (sym same) ∙ leaf) (Read next) x.does), x.does.0)
+      subst (λ m. Does s a (trim page m) (state_of d) × TrimsTo m next) (sym same) (
+        page_does s a page (state_of d) x (trim page x.was)
+            (trim_is s a page x.was x.new x.there s.board.settings (made_by a s.board.log) x.row x.made (ap (λ (m : Node). m.level) (sym same) ∙ leaf) (Read next) x.does),
+        x.does.0,
+      )
 
   pub answer_trim : (r : Visit) → made.Trims (state_of c) a page r (state_of d) → Answered c d a (λ v w. Trims v w page r)
   answer_trim (Down p) x = absurd x

@@ -1,6 +1,6 @@
 -- Which event each section of one page is: of any state that has the page and the actor's record.
 use Rattle.std.proofs.Common.{◌≡◌, ℕ, ◌+◌, ◌++◌, [], ◌∷◌, ◌<◌, ◌==◌, List, length, get_or, set, cond, true, false, IsTrue, refl, sym, ap, ◌∙◌, subst, eqb-true, Option, Some, None}
-use Rattle.std.specs.Prelude.{Bool, slice_get}
+use Rattle.std.specs.Prelude.{Bool}
 use Rattle.std.proofs.lemmas.List.{set-get_or}
 use Rattle.std.proofs.lemmas.Option.{get_or_from_slice_get}
 use Rattle.mi_base.specs.Configuration.{Configuration}

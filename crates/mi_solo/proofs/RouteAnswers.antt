@@ -6,7 +6,7 @@ use Rattle.mi_core.specs.Effects.{trim_leaf}
 use Rattle.mi_core.specs.Events.{Can, MayPost as CanPost, after, first_actor}
 use Rattle.mi_core.specs.Events.Event.{split_page, trim, visit}
 use Rattle.mi_core.specs.Kept.{Kept}
-use Rattle.mi_core.specs.State.{State, node_at, put_page}
+use Rattle.mi_core.specs.State.{State, put_page}
 use Rattle.mi_entries.specs.Actors.{Actor}
 use Rattle.mi_page.specs.Nodes.{Node, item_count, middle_key}
 use Rattle.mi_world.specs.declared.answers.Parted.{Parted}
@@ -60,8 +60,8 @@ module _ (c d : Core) (a : ℕ) (k : Kept (state_of c)) (g : IsGoing c a) where
     posts r x =
         let s = state_of c in
         let may : EndsAfter x.was level key → item_count x.was < 32 → CanPost s x.was key child = λ ends few.
-            can_post s a (actor_in s a) level key child route page x.was x.there seeks.low_is ends
-            (few_routes x.was (page_stands s k page x.was x.there) (omega (arith, ends.level, route.level_is)) (λ e. absurd (omega (arith, few, e)))) in
+        can_post s a (actor_in s a) level key child route page x.was x.there seeks.low_is ends
+        (few_routes x.was (page_stands s k page x.was x.there) (omega (arith, ends.level, route.level_is)) (λ e. absurd (omega (arith, few, e)))) in
         page_does s a page (state_of d) x (post_event page key child x.was r) (post_is s a page x.was x.new x.there s.board.settings (made_by a s.board.log) x.row x.made level key child may r x.does)
 
     pub answer_post : (r : Put) → OnPage (state_of c) a page (PostsRow page level key child r) (state_of d) → Answered c d a (λ v w. Posts v w page level key child r)

@@ -1,22 +1,21 @@
 -- What sections of routes owe to hands and pages, and what they make of the state.
-use Rattle.std.proofs.Common.{◌≡◌, ◌≢◌, ℕ, ◌+◌, ◌<◌, ◌≤◌, ◌==◌, [], ◌∷◌, ◌++◌, length, get_or, set, cond, true, false, IsTrue, refl, sym, ap, ◌∙◌, subst, arith, Option, Some, None, inl, inr}
+use Rattle.std.proofs.Common.{◌≡◌, ◌≢◌, ℕ, ◌<◌, ◌≤◌, ◌==◌, length, get_or, set, cond, true, false, IsTrue, refl, sym, ap, ◌∙◌, subst, arith, Option, Some, None, inl, inr}
 use Rattle.std.specs.Prelude.{Bool}
-use Rattle.std.proofs.lemmas.Bool.{cases_lt, eqb-true, ne_eqb}
+use Rattle.std.proofs.lemmas.Bool.{cases_lt, ne_eqb}
 use Rattle.std.proofs.lemmas.List.{length-map}
 use Rattle.mi_board.specs.Boards.{BoardState, grown}
-use Rattle.mi_core.specs.Effects.{noted, paid, post_route, saw, trim_leaf, trim_node}
-use Rattle.mi_core.specs.Events.{Can, MayPost, hand}
-use Rattle.mi_core.specs.Events.Event.{grow, post, split_page, trim, visit}
+use Rattle.mi_core.specs.Effects.{noted, paid, saw, trim_leaf, trim_node}
+use Rattle.mi_core.specs.Events.{Can, hand}
+use Rattle.mi_core.specs.Events.Event.{grow, visit}
 use Rattle.mi_core.specs.Kept.{Kept}
 use Rattle.mi_core.specs.State.{node_at}
 use Rattle.mi_entries.specs.Actors.{Actor}
 use Rattle.mi_key.specs.declared.entries.Entry.{Entry}
 use Rattle.mi_page.specs.declared.routes.Route.{Route}
-use Rattle.mi_page.specs.Nodes.{IsNode, Node, item_count, lower_half, middle_key, root_node, upper_half}
+use Rattle.mi_page.specs.Nodes.{IsNode, Node, item_count, root_node}
 use Rattle.mi_solo.specs.declared.cores.Core.{Core}
 use Rattle.mi_solo.specs.declared.rows.ActorRow.{ActorRow}
 use Rattle.mi_solo.specs.InHand.{InHand}
-use Rattle.mi_solo.specs.Routes.{trims_leaf}
 use Rattle.mi_solo.specs.States.{Does, actor_in, actor_of, actors_of, is_linked, node_in, state_of}
 use Rattle.mi_solo.proofs.CoreLemmas.{comes_to, log_of, row_is, suits}
 use Rattle.mi_solo.proofs.PageLemmas.{node_here, page_here}

@@ -1,24 +1,15 @@
 -- What a splitter's next work and the end of a split make of the state.
-use Rattle.std.proofs.Common.{◌≡◌, ℕ, ◌<◌, ◌≤◌, List, drop, is_some, length, get_or, set, Bool, true, IsTrue, refl, sym, ap, ◌∙◌, subst, arith, Some, None}
+use Rattle.std.proofs.Common.{◌≡◌, ℕ, ◌<◌, ◌≤◌, List, is_some, length, get_or, set, Bool, true, IsTrue, refl, ap, ◌∙◌, arith, Some, None}
 use Rattle.mi_base.specs.History.{at_position, events_at}
 use Rattle.mi_base.specs.Prefixes.{all_below}
-use Rattle.mi_board.specs.Actors.{with_claim}
-use Rattle.mi_board.specs.Boards.{BoardState, floor_of, given_up, look_of, next_sweep, with_actor}
-use Rattle.mi_board.specs.Boards as board
-use Rattle.mi_core.specs.Effects.{looked, saw}
-use Rattle.mi_core.specs.Events.{IsFree}
+use Rattle.mi_board.specs.Boards.{BoardState, floor_of, given_up, next_sweep}
+use Rattle.mi_core.specs.Effects.{saw}
 use Rattle.mi_core.specs.Events.Event.{give_up}
 use Rattle.mi_core.specs.Kept.{Kept}
 use Rattle.mi_core.specs.State.{State}
 use Rattle.mi_core.proofs.NextLemmas.{next_swept}
 use Rattle.mi_entries.specs.Actors.{Actor}
-use Rattle.mi_entries.specs.Entries.{grid}
-use Rattle.mi_entries.specs.Marks.{cell_range, cell_start}
 use Rattle.mi_entries.proofs.RetiredLemmas.{IsPast, past_later}
-use Rattle.mi_tree.specs.declared.answers.Look.{Look}
-use Rattle.mi_tree.specs.declared.answers.Work.{Work}
-use Rattle.mi_tree.specs.declared.answers.Work.TheVariants as work
-use Rattle.mi_tree.specs.declared.outcomes.Leaf.{Leaf}
 use Rattle.mi_solo.specs.declared.cores.Core.{Core}
 use Rattle.mi_solo.specs.declared.rows.ActorRow.{ActorRow}
 use Rattle.mi_solo.specs.States.{Does, actor_in, actor_of, actors_of, state_of, view_in}

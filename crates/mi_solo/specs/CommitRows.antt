@@ -1,5 +1,5 @@
 -- What a commit makes of the board, its page and the rows of its shard, all in hand, and of its actor's row.
-use Rattle.std.specs.Prelude.{◌≡◌, ◌≤◌, ◌<◌, ◌+◌, ◌^◌, ◌∷◌, [], ℕ, ℤ, List, Option, Some, None, true, false, length, slice_get}
+use Rattle.std.specs.Prelude.{◌≡◌, ◌≤◌, ◌<◌, ◌+◌, ◌^◌, ℕ, ℤ, List, Some, None, true, false, length, slice_get}
 use Rattle.mi_base.specs.declared.records.Update.TheVariants.{Insert}
 use Rattle.mi_base.specs.Configuration.{Configuration}
 use Rattle.mi_base.specs.History.{updates_of}

@@ -1,5 +1,5 @@
 -- What sections of routes do: a page is halved, a root grows.
-use Rattle.std.specs.Prelude.{◌≡◌, ◌≢◌, ◌<◌, ◌+◌, ◌==◌, ℕ, Bool, true, false, cond, Some, None}
+use Rattle.std.specs.Prelude.{◌≡◌, ◌≢◌, ◌+◌, ◌==◌, ℕ, Bool, true, false, cond, Some, None}
 use Rattle.mi_core.specs.Events.{Event}
 use Rattle.mi_core.specs.Events.Event.{grow, refuse, trim, visit}
 use Rattle.mi_core.specs.Refusals.Refusal.{grown}

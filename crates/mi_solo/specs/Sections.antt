@@ -1,20 +1,20 @@
 -- What each section does, told by cases on what it answers.
-use Rattle.std.specs.Prelude.{◌≡◌, ◌+◌, ◌==◌, ℕ, ℤ, List, [], ◌∷◌, true, false, length, Option, Some, None, Result, Ok, Err}
+use Rattle.std.specs.Prelude.{◌≡◌, ◌+◌, ◌==◌, ℕ, List, [], ◌∷◌, true, length, Option, Some, None, Result, Ok, Err}
 use Rattle.std.specs.List.{find}
 use Rattle.mi_base.specs.declared.refusals.NoMemory.{NoMemory}
 use Rattle.mi_base.specs.Permutations.{begins}
 use Rattle.mi_board.specs.Actors.{with_reserved}
-use Rattle.mi_board.specs.Boards.{BoardState, HasRoom, crowded_at, IsFull, look_of, with_actor}
+use Rattle.mi_board.specs.Boards.{BoardState, HasRoom, IsFull, look_of, with_actor}
 use Rattle.mi_core.specs.Events.{hand, leaf_or}
-use Rattle.mi_core.specs.Events.Event.{allot, claim_leaf, insert, meet, refuse_at, claim_shard, lack, miss_shard, pin, refuse, reserve, see, trim, visit}
-use Rattle.mi_core.specs.Refusals.Refusal.{crowded, full, held, page_full, pages_full}
+use Rattle.mi_core.specs.Events.Event.{allot, claim_leaf, claim_shard, lack, miss_shard, pin, refuse, reserve, see, trim, visit}
+use Rattle.mi_core.specs.Refusals.Refusal.{full, held, pages_full}
 use Rattle.mi_core.specs.State.{State}
-use Rattle.mi_entries.specs.Records.{Rows, Shard, held_by, home, shard_at}
-use Rattle.mi_solo.specs.States.{Does, actor_in, node_in, view_in}
+use Rattle.mi_entries.specs.Records.{Rows, Shard, home, shard_at}
+use Rattle.mi_solo.specs.States.{Does, actor_in, node_in}
 use Rattle.mi_solo.specs.Viewing.{record_shown}
 use Rattle.mi_key.specs.declared.ranges.Interval.{Interval}
 use Rattle.mi_entries.specs.Actors.{Pin}
-use Rattle.mi_solo.specs.Seeking.{AnswersVisit, TrimsTo, EndsAfter, PointsDown, PointsRight}
+use Rattle.mi_solo.specs.Seeking.{AnswersVisit, TrimsTo}
 use Rattle.mi_tree.specs.declared.answers.AllotRefusal.{AllotRefusal}
 use Rattle.mi_tree.specs.declared.answers.AllotRefusal.TheVariants as allots
 use Rattle.mi_tree.specs.declared.answers.LeafClaim.{LeafClaim}
@@ -25,8 +25,6 @@ use Rattle.mi_tree.specs.declared.answers.ReserveRefusal.TheVariants as refused
 use Rattle.mi_tree.specs.Counting.{leaves_beginning}
 use Rattle.mi_tree.specs.Legal.{cells_of}
 use Rattle.mi_world.specs.declared.answers.ShardClaim.{ShardClaim}
-use Rattle.mi_entries.specs.Entries.{grid}
-use Rattle.mi_key.specs.declared.entries.Entry.{Entry}
 use Rattle.mi_world.specs.declared.answers.Visit.{Visit}
 use Rattle.mi_world.specs.declared.answers.Visit.TheVariants.{Down, Right, Read}
 use Rattle.mi_world.specs.declared.answers.ShardClaim.TheVariants.{Taken as ShardTaken, Held as ShardHeld}

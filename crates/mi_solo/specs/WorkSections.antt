@@ -1,15 +1,12 @@
 -- What the sections of splits and sweeps do, told by cases on what they answer.
-use Rattle.std.specs.Prelude.{◌≡◌, ℕ, Some, Result, Ok, Err}
+use Rattle.std.specs.Prelude.{◌≡◌, ℕ, Result, Ok, Err}
 use Rattle.mi_base.specs.declared.refusals.NoMemory.{NoMemory}
 use Rattle.mi_base.specs.declared.records.Position.{Position}
 use Rattle.mi_base.specs.History.{end_of}
-use Rattle.mi_board.specs.Boards.{next_split}
-use Rattle.mi_core.specs.Events.Event.{gather, no_work, publish, see, start, take_split, take_sweep}
+use Rattle.mi_core.specs.Events.Event.{gather, publish, see, start}
 use Rattle.mi_core.specs.State.{State}
 use Rattle.mi_solo.specs.Seeking.{PointsDown, PointsRight, ReadsOn}
 use Rattle.mi_solo.specs.States.{Does, node_in, view_in}
-use Rattle.mi_tree.specs.declared.answers.Work.{Work}
-use Rattle.mi_tree.specs.declared.answers.Work.TheVariants as work
 use Rattle.mi_world.specs.declared.answers.Visit.{Visit}
 use Rattle.mi_world.specs.declared.answers.Visit.TheVariants.{Down, Right, Read}
 use Rattle.mi_world.specs.Splits.{gather_key, last_key}

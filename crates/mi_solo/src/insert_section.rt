@@ -41,7 +41,16 @@ impl Core {
         let shard = &mut self.shards[(id.get() % 16) as usize];
         let board = &mut self.board;
         insert_row(
-            actor, page, op, id, vector, dists, board, node, &mut shard.rows, me,
+            actor,
+            page,
+            op,
+            id,
+            vector,
+            dists,
+            board,
+            node,
+            &mut shard.rows,
+            me,
         )
     }
 }

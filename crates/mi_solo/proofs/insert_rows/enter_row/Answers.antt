@@ -1,4 +1,4 @@
-use Rattle.std.proofs.Common.{◌≡◌, ◌∙◌, ◌<◌, ◌+◌, ◌^◌, None, Some, ap, arith, length, refl, subst, sym}
+use Rattle.std.proofs.Common.{◌≡◌, ◌∙◌, ◌<◌, ◌+◌, None, ap, arith, length, refl, subst, sym}
 use Rattle.mi_base.specs.Configuration.{Configuration}
 use Rattle.mi_base.specs.History.{updates_of}
 use Rattle.mi_base.specs.Permutations.{distance_at_first, permutation_of}

@@ -1,4 +1,4 @@
-use Rattle.std.proofs.Common.{◌≡◌, ◌∙◌, ◌<◌, ◌≤◌, ◌%◌, ◌^◌, IsTrue, Some, ap, arith, get_or, length, refl, set, subst, sym}
+use Rattle.std.proofs.Common.{◌≡◌, ◌∙◌, ◌<◌, ◌≤◌, ◌%◌, IsTrue, Some, ap, arith, get_or, length, refl, set, subst, sym}
 use Rattle.std.specs.Prelude.{IsSome}
 use Rattle.mi_base.specs.Configuration.{Configuration}
 use Rattle.mi_base.specs.Permutations.{permutation_of}
@@ -6,7 +6,6 @@ use Rattle.mi_base.specs.Prefixes.{all_below}
 use Rattle.mi_entries.specs.Actors.{Actor}
 use Rattle.mi_entries.specs.Records.{Rows, Shard, held_by, home, no_shard, shard_at}
 use Rattle.mi_page.specs.Routes.{IsChild}
-use Rattle.mi_page.specs.Nodes.{Node}
 use Rattle.mi_world.specs.Pages.{insert_key, next_number}
 use Rattle.mi_solo.specs.CommitRows.{InsertsRow, key_in_row, next_birth}
 use Rattle.mi_solo.specs.PageRows.{OnlyNotes}

@@ -1,4 +1,4 @@
-use Rattle.std.proofs.Common.{◌<◌, ◌≤◌, ap, arith, sym}
+use Rattle.std.proofs.Common.{arith}
 use Rattle.mi_solo.specs.PageRows.{PostsRow}
 use Rattle.mi_solo.specs.States.{actor_in, state_of}
 use Rattle.mi_solo.proofs.DescentLemmas.{has_sibling, shows_page}

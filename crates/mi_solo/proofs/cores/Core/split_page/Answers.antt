@@ -1,7 +1,6 @@
-use Rattle.std.proofs.Common.{◌∙◌, ◌<◌, Option, None, Some, arith, length-set, refl, set, subst, sym}
+use Rattle.std.proofs.Common.{◌∙◌, None, Some, arith, length-set, refl, set, subst, sym}
 use Rattle.std.specs.Prelude.{IsSome}
 use Rattle.mi_core.proofs.NamedLemmas.{few_levels}
-use Rattle.mi_page.specs.Nodes.{Node}
 use Rattle.mi_solo.specs.PageRows.{HalvesRow}
 use Rattle.mi_solo.specs.States.{actor_in, actors_of, state_of}
 use Rattle.mi_solo.proofs.CoreLemmas.{some_of}

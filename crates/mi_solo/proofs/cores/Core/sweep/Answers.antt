@@ -1,5 +1,4 @@
-use Rattle.std.proofs.Common.{◌≤◌, ◌∙◌, Some, ap, subst, sym}
-use Rattle.std.specs.Prelude.{IsSome, is_some, true}
+use Rattle.std.proofs.Common.{◌≤◌, ap, subst, sym}
 use Rattle.mi_base.specs.Configuration.{Configuration}
 use Rattle.mi_entries.specs.Actors.{Actor}
 use Rattle.mi_page.specs.Nodes.{Node}

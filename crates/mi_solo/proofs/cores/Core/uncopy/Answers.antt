@@ -1,4 +1,4 @@
-use Rattle.std.proofs.Common.{◌≡◌, ◌<◌, ◌≤◌, ◌-◌, ◌==◌, ◌∙◌, Bool, ap, arith, length, subst, sym, true}
+use Rattle.std.proofs.Common.{◌≡◌, ◌<◌, ◌≤◌, ◌-◌, ◌==◌, ◌∙◌, Bool, ap, arith, subst, sym, true}
 use Rattle.mi_base.specs.Configuration.{Configuration}
 use Rattle.mi_entries.specs.Actors.{Actor}
 use Rattle.mi_page.specs.Entries.{has_entry}

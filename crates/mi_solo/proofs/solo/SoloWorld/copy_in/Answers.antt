@@ -1,4 +1,4 @@
-use Rattle.std.proofs.Common.{◌<◌, ◌≤◌, subst, sym}
+use Rattle.std.proofs.Common.{◌≤◌, subst, sym}
 use Rattle.mi_world.specs.Splits.{IsGathered, next_copy}
 use Rattle.mi_solo.specs.Solos.{SoloState, view_of}
 use Rattle.mi_solo.proofs.CopyAnswers.{answer_copy}
