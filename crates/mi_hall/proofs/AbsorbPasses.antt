@@ -33,7 +33,7 @@ use Rattle.mi_hall.specs.Absorbed.{HasGone, ended_row}
 use Rattle.mi_hall.specs.Seats.{seat_view}
 use Rattle.mi_hall.proofs.AbsorbedLemmas.{more_gone}
 use Rattle.mi_hall.proofs.Absorbing.{absorbs_so, either}
-use Rattle.mi_hall.proofs.PassLemmas.{pin_bare}
+use Rattle.mi_solo.proofs.BoardTurns.{shown_bare}
 
 -- nothing is out with a pass that holds no shard
 pub none_out : (k : Option ℕ) (rows : Option Rows) (out held : List (ℕ × Slot)) → k ≡ None → HasOut k rows out held → (out ≡ []) × (held ≡ [])
@@ -62,7 +62,7 @@ module _ (settings : Configuration) (y : Seated) (a : ℕ) (row : ActorRow) (row
           shard = idle.shard;
           free = record { claim = idle.leaf; sweep = no_sweep y.0.mine.part.sweep idle.sweep };
           split = no_split y.0.mine.part.split refl;
-          pin = pin_bare y.0.mine.log y.0.mine.part.pin idle.pin;
+          pin = shown_bare y.0.mine.log y.0.mine.part.pin idle.pin;
         },
       )
 

@@ -36,7 +36,7 @@ use Rattle.mi_hall.specs.Passes.{IsPass, row_actor}
 use Rattle.mi_hall.specs.Seats.{knowledge, rows_in, seat_view}
 use Rattle.mi_hall.proofs.AbsorbPasses.{no_sweep, none_out}
 use Rattle.mi_hall.proofs.ClosingLemmas.{IsFor, actors_are, core_is, left_cells, length-placed, most_few, most_has, most_up, most_within, placed_for, row_for}
-use Rattle.mi_hall.proofs.PassLemmas.{pin_bare}
+use Rattle.mi_solo.proofs.BoardTurns.{shown_bare}
 use Rattle.mi_hall.proofs.SeatLemmas.{seat_is, seat_knows}
 
 -- who is shown to be absorbed was
@@ -118,7 +118,7 @@ module _ (key : Configuration) (me : Seated) (a : ℕ) (row : ActorRow) (rows : 
       shard = idle.shard;
       free = record { claim = idle.leaf; sweep = no_sweep r.sweep idle.sweep };
       split = no_split r.split refl;
-      pin = pin_bare me.0.mine.log r.pin idle.pin;
+      pin = shown_bare me.0.mine.log r.pin idle.pin;
     }
 
     pub nobody_holds : (k : ℕ) → (shard_at l.core.shards k).holder ≡ None

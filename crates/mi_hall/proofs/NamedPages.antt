@@ -27,7 +27,7 @@ use Rattle.mi_tree.specs.declared.answers.AllotRefusal.{AllotRefusal}
 use Rattle.mi_tree.specs.declared.answers.AllotRefusal.TheVariants.{Memory, PagesFull}
 use Rattle.mi_tree.specs.declared.answers.Look.{Look}
 use Rattle.mi_hall.specs.Knowledge.{is_named, level_of, low_of}
-use Rattle.mi_hall.specs.Passes.{AllotsRow, AreNear, PassState, PinsRow, giving}
+use Rattle.mi_hall.specs.Passes.{AreNear, PassState, giving}
 use Rattle.mi_hall.proofs.KnowledgeLemmas.{first_named, more_named}
 
 -- a named page is one of those that it was told of
@@ -114,13 +114,3 @@ board_near settings old m new made told b board was table its seen live is f gav
     let one : was ≡ its = ap (λ (z : PassState). z.table) same ∙ fits in
     subst (λ (t : TableId). AreNear t.words new.0.mine.named) (sym stays)
     (given_near settings old m new made told b board was.words live is f gave root (ap (λ (t : TableId). t.words) one ∙ many) near)
-
--- a pin and an allotment leave the root
-pub pins_root : (a : ℕ) (b board : BoardState) (row made : ActorRow) (result : Result Look NoMemory) → PinsRow a b row result board made → board.root ≡ b.root
-pins_root a b board row made (Ok look) x = ap (λ (z : BoardState). z.root) x.1
-pins_root a b board row made (Err e) x = ap (λ (z : BoardState). z.root) x.0
-
-pub allots_root : (b board : BoardState) (row made : ActorRow) (was told : Bool) (result : Result (Unit {0}) AllotRefusal) → AllotsRow b row was result board made told → board.root ≡ b.root
-allots_root b board row made was told (Ok _) x = ap (λ (z : BoardState). z.root) x.1
-allots_root b board row made was told (Err (PagesFull limit)) x = ap (λ (z : BoardState). z.root) x.2
-allots_root b board row made was told (Err Memory) x = ap (λ (z : BoardState). z.root) x.0

@@ -80,10 +80,6 @@ pub pin_shown : (log : List LogEvent) (o : Option Pin) → IsSome (pinned_log lo
 pin_shown log None h = absurd (false≢true h)
 pin_shown log (Some p) h = (p, refl)
 
-pub pin_bare : (log : List LogEvent) (o : Option Pin) → pinned_log log o ≡ None → o ≡ None
-pin_bare log None h = refl
-pin_bare log (Some p) h = absurd (none-some (at_position log p.at) (sym h))
-
 -- what its row has in hand is shown
 pub hand_shown : (me : Seated) (a : ℕ) (row : ActorRow) (rows : Option Rows) (told : Bool) (table : TableId) (now : PassState) → IsPass me a row rows told → record { sight = me.0; table = table } ≡ now → is_some row.hand.fresh ≡ is_some (seat_view now.sight).fresh
 hand_shown me a row rows told table now p same = ap (λ (r : Actor). is_some r.fresh) (sym p.row_is) ∙ ap (λ (z : PassState). is_some (seat_view z.sight).fresh) same

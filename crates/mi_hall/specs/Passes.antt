@@ -59,21 +59,11 @@ pub record IsPass (me : Seated) (actor : ℕ) (row : ActorRow) (rows : Option Ro
 abbrev pub giving : Sight → ActorRow → BoardState → Bool → List (ℕ × Slot) → Sight
 giving v row b told out = gives_board v (row_actor b.settings v.mine.part row) b told (root_of b) out
 
--- what a pin makes of the board and of its actor's row, or that memory was wanted
-abbrev pub PinsRow : ℕ → BoardState → ActorRow → Result Look NoMemory → BoardState → ActorRow → Type 0
-PinsRow a b row (Ok look) board made =
-    (look ≡ look_of board) × (board ≡ pinned a b) × (p : PinRow) × (p.at ≡ end_of b.log) × (arc_value p.cells ≡ cells_in b.settings b.log)
-    × (made ≡ record row { seen = length b.log; floor = floor_of b; pin = Some p })
-PinsRow a b row (Err e) board made = (board ≡ b) × (made ≡ record row { seen = length b.log })
-
--- what an allotment makes of the board, of its actor's row, and of what it was told
-abbrev pub AllotsRow : BoardState → ActorRow → Bool → Result (Unit {0}) AllotRefusal → BoardState → ActorRow → Bool → Type 0
-AllotsRow b row was (Ok _) board made told =
-    (b.allotted < b.settings.pages) × (board ≡ record b { allotted = b.allotted + 1 })
-    × (made ≡ record row { seen = length b.log; hand = record { fresh = Some b.allotted; owed = row.hand.owed } }) × (told ≡ was)
-AllotsRow b row was (Err (PagesFull limit)) board made told =
-    (limit ≡ b.settings.pages) × (b.allotted ≡ limit) × (board ≡ b) × (made ≡ record row { seen = length b.log }) × (told ≡ true)
-AllotsRow b row was (Err Memory) board made told = (board ≡ b) × (made ≡ record row { seen = length b.log; lacked = true }) × (told ≡ was)
+-- whether it was told that all pages are allotted, after this answer to a call for a page
+abbrev pub told_after : Result (Unit {0}) AllotRefusal → Bool → Bool
+told_after (Ok _) told = told
+told_after (Err (PagesFull limit)) told = true
+told_after (Err Memory) told = told
 
 -- each page that it was told of has its word in the table
 abbrev pub AreNear : ℕ → List Named → Type 0

@@ -1,17 +1,13 @@
 //! A seat's sections of the board that claim a leaf, let go of one, and give a splitter its work.
-ghost use Rattle.std.specs.Prelude.{◌≡◌, ◌<◌, IsSome, None, false, length};
-ghost use Rattle.mi_board.specs.Actors.{actor_at};
+ghost use Rattle.std.specs.Prelude.{◌≡◌, IsSome, None, false, length};
 ghost use Rattle.mi_world.specs.Boards.{GivesWork};
 ghost use Rattle.mi_world.specs.Claims.{ClaimsLeaf, ReleasesLeaf};
 ghost use Rattle.mi_hall.specs.Seats.{seat_view};
-ghost use Rattle.mi_solo.specs.BoardRows.{ClaimsRow};
 
 use crate::passes::{Pass, give_board};
 use mi_base::Perm;
-use mi_board::Board;
 use mi_latch::LatchTable;
-use mi_solo::board_rows::work_row;
-use mi_solo::rows::ActorRow;
+use mi_solo::board_rows::{claim_row, work_row};
 use mi_tree::{LeafClaim, Work};
 use std::marker::Brand;
 use std::sync::Wait;
@@ -88,19 +84,4 @@ impl Pass {
         );
         work
     }
-}
-
-/// Claims the leaf of the permutation for the actor of the row.
-fn claim_row(actor: u32, perm: &Perm, board: &mut Board, row: &mut ActorRow) -> LeafClaim
-    requires known { actor < length board.old.actors }
-    requires long { length perm.now ≡ length board.old.settings.pivots }
-    requires free { (actor_at board.old.actors actor).claim ≡ None }
-    ensures { ClaimsRow actor perm.now board.old row.old result board.new row.new }
-{
-    let claim = board.claim_leaf(actor, perm);
-    match &claim {
-        LeafClaim::Taken { leaf } => row.take_leaf(board, &leaf.prefix),
-        LeafClaim::Held { .. } => row.see(board),
-    }
-    claim
 }

@@ -1,11 +1,10 @@
 //! A seat between two calls, and its sections of the board.
-ghost use Rattle.std.specs.Prelude.{◌≡◌, ◌<◌, [], IsSome, None, false, is_some, length};
+ghost use Rattle.std.specs.Prelude.{◌≡◌, ◌<◌, [], IsSome, None, false, is_some};
 ghost use Rattle.atomic_table.specs.Table.{rest};
-ghost use Rattle.mi_board.specs.Actors.{actor_at};
 ghost use Rattle.mi_board.specs.Boards.{BoardState, cells_in};
 ghost use Rattle.mi_latch.specs.Views.{Doing, HoldsLast};
 ghost use Rattle.mi_hall.specs.Absorbed.{IsSpare};
-ghost use Rattle.mi_hall.specs.Passes.{AllotsRow, PinsRow, giving};
+ghost use Rattle.mi_hall.specs.Passes.{giving, told_after};
 ghost use Rattle.mi_base.specs.Configuration.{Configuration};
 ghost use Rattle.mi_base.specs.History.{end_of};
 ghost use Rattle.mi_latch.specs.Views.{newcomer};
@@ -15,17 +14,18 @@ ghost use Rattle.mi_world.specs.Splits.{copied_in, gathered_in};
 ghost use Rattle.mi_hall.specs.Seats.{seat_view};
 
 use crate::absorbed::Gone;
-use mi_base::{NoMemory, Position, Steps};
+use mi_base::{NoMemory, Position};
 use mi_board::Board;
 use mi_latch::{Aim, LatchTable, Seat, Slot};
 use mi_shard::ShardRows;
-use mi_solo::rows::{ActorRow, PinRow};
+use mi_solo::board_rows::{allot_row, pin_row};
+use mi_solo::rows::ActorRow;
 use mi_tree::{AllotRefusal, Catalog, Look};
 use std::alloc::Global;
 use std::collections::LinkedList;
 use std::marker::{Brand, Model};
 use std::sync::Wait;
-use std::sync::ledger::{Blank, Ledger};
+use std::sync::ledger::Blank;
 
 /// A place without its loan of the hall: its seat, the number and the row of its actor, the rows of
 /// the shard that it holds, whether it was told that all pages are allotted, the end of the log that
@@ -218,7 +218,8 @@ impl Pass {
         ensures told { Allots (seat_view self.old.sight) (seat_view self.new.sight) result }
     {
         let mut board = latches.take_board(rt, &mut self.seat, self.actor);
-        let result = allot_row(alloc, &mut board, &mut self.row, &mut self.told);
+        let result = allot_row(alloc, &mut board, &mut self.row);
+        self.told = told_by(&result, self.told);
         give_board::<Brand>(
             latches,
             &mut self.seat,
@@ -231,58 +232,13 @@ impl Pass {
     }
 }
 
-/// Takes the board's next page in the hand of the row.
-fn allot_row(
-    alloc: Global,
-    board: &mut Board,
-    row: &mut ActorRow,
-    told: &mut bool,
-) -> Result<(), AllotRefusal>
-    ensures { AllotsRow board.old row.old told.old result board.new row.new told.new }
+/// Whether an actor was told that all pages are allotted, after this answer.
+fn told_by(answer: &Result<(), AllotRefusal>, told: bool) -> bool
+    ensures { result ≡ told_after answer.now told }
 {
-    match row.hand.allot(alloc, board) {
-        Ok(()) => {
-            row.see(board);
-            Ok(())
-        }
-        Err(AllotRefusal::PagesFull { limit }) => {
-            row.see(board);
-            *told = true;
-            Err(AllotRefusal::PagesFull { limit })
-        }
-        Err(AllotRefusal::Memory) => {
-            row.lack(board);
-            Err(AllotRefusal::Memory)
-        }
-    }
-}
-
-/// Pins the end of the board's log for the actor of the row.
-fn pin_row<L: Ledger>(
-    alloc: Global,
-    actor: u32,
-    board: &mut Board,
-    row: &mut ActorRow,
-    blank: Blank,
-) -> Result<Look, NoMemory>
-    requires name { blank.name ≡ L.name }
-    requires parts { blank.parts ≡ L.parts }
-    requires some { 0 < blank.parts }
-    requires known { actor < length board.old.actors }
-    requires free { (actor_at board.old.actors actor).pin ≡ None }
-    ensures { PinsRow actor board.old row.old result board.new row.new }
-{
-    let floor = board.look().floor;
-    match board.pin(alloc, actor, &mut Steps::<L>::new(blank)) {
-        Ok((look, cells)) => {
-            let pin = PinRow { at: look.at, cells };
-            row.pin(board, floor, pin);
-            Ok(look)
-        }
-        Err(refusal) => {
-            row.see(board);
-            Err(refusal)
-        }
+    match answer {
+        Err(AllotRefusal::PagesFull { .. }) => true,
+        Ok(()) | Err(AllotRefusal::Memory) => told,
     }
 }
 

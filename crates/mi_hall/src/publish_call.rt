@@ -2,14 +2,11 @@
 ghost use Rattle.std.specs.Prelude.{◌≡◌, length};
 ghost use Rattle.mi_world.specs.Splits.{IsGathered, Publishes};
 ghost use Rattle.mi_hall.specs.Seats.{seat_view};
-ghost use Rattle.mi_solo.specs.BoardRows.{MayEnter, PublishesRow};
 
 use crate::passes::{Pass, give_board};
 use mi_base::{NoMemory, Position};
-use mi_board::Board;
 use mi_latch::LatchTable;
-use mi_solo::placing::placed_objects;
-use mi_solo::rows::ActorRow;
+use mi_solo::board_rows::publish_row;
 use std::alloc::Global;
 use std::marker::Brand;
 use std::sync::Wait;
@@ -41,37 +38,5 @@ impl Pass {
             board,
         );
         result
-    }
-}
-
-/// Enters the split of the row, and ends its claim.
-fn publish_row(
-    alloc: Global,
-    actor: u32,
-    board: &mut Board,
-    row: &mut ActorRow,
-) -> Result<Position, NoMemory>
-    requires { MayEnter actor board.old row.old }
-    ensures { PublishesRow actor board.old row.old result board.new row.new }
-{
-    let Some(work) = &row.split else {
-        unreachable!();
-    };
-    let objects = match placed_objects(alloc, &work.gathered) {
-        Ok(objects) => objects,
-        Err(refusal) => {
-            row.see(board);
-            return Err(refusal);
-        }
-    };
-    match board.publish(alloc, actor, &objects) {
-        Ok(position) => {
-            row.end_split(board);
-            Ok(position)
-        }
-        Err(refusal) => {
-            row.see(board);
-            Err(refusal)
-        }
     }
 }

@@ -21,7 +21,6 @@ pub mod WorkEvents
 pub mod RouteEvents
 pub mod RouteLaws
 pub mod CoreLemmas
-pub mod BoardSections
 pub mod ShardSections
 pub mod MarkLemmas
 pub mod GatherEvents

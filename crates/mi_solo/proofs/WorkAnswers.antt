@@ -1,11 +1,11 @@
 -- The event that each section of a splitter is, by its answer, and what the trait tells of it.
-use Rattle.std.proofs.Common.{◌≡◌, ◌≤◌, ◌∙◌, ℕ, Bool, IsTrue, ap, refl, subst, sym, Some, Result, Ok, Err}
+use Rattle.std.proofs.Common.{◌≡◌, ◌≤◌, ◌∙◌, ℕ, Bool, IsTrue, ap, length, refl, subst, sym, Some, Result, Ok, Err}
 use Rattle.std.specs.Prelude.{IsSome}
 use Rattle.std.proofs.lemmas.Option.{get_or_from_slice_get}
 use Rattle.mi_base.specs.declared.refusals.NoMemory.{NoMemory}
 use Rattle.mi_core.specs.Actors.{made_by}
-use Rattle.mi_core.specs.Events.{IsFree, first_actor}
-use Rattle.mi_core.specs.Events.Event.{give_up as give_up_event}
+use Rattle.mi_core.specs.Events.{Can, IsFree, after, first_actor, leaf_or}
+use Rattle.mi_core.specs.Events.Event.{give_up as give_up_event, publish}
 use Rattle.mi_core.specs.Kept.{Kept}
 use Rattle.mi_base.specs.declared.records.Position.{Position}
 use Rattle.mi_base.specs.History.{end_of}
@@ -20,22 +20,24 @@ use Rattle.mi_world.specs.declared.answers.Visit.TheVariants.{Down, Read, Right}
 use Rattle.mi_world.specs.Boards.{GivesWork}
 use Rattle.mi_world.specs.LeafKeys.{greatest_key}
 use Rattle.mi_world.specs.View.{prefix_or}
-use Rattle.mi_world.specs.Splits.{Gathers, GivesUp, Publishes, Sweeps}
+use Rattle.mi_world.specs.Splits.{Gathers, GivesUp, IsGathered, Publishes, Sweeps}
 use Rattle.mi_solo.specs.declared.cores.Core.{Core}
-use Rattle.mi_solo.specs.BoardRows.{WorksRow}
+use Rattle.mi_solo.specs.BoardRows.{PublishesRow, WorksRow}
 use Rattle.mi_solo.specs.OnBoards.{OnBoard}
 use Rattle.mi_solo.specs.LeafRows.{SweepsRow, swept_mark}
 use Rattle.mi_solo.specs.OnPages.{OnPage}
 use Rattle.mi_solo.specs.Seeking.{PointsDown, PointsRight, ReadsOn}
-use Rattle.mi_solo.specs.States.{Does, IsGoing, actor_in, is_linked, node_in, state_of, view_in}
+use Rattle.mi_solo.specs.States.{Does, IsGoing, actor_in, actor_of, is_linked, node_in, state_of, view_in}
 use Rattle.mi_solo.specs.Viewing.{swept_leaf, swept_to}
 use Rattle.mi_solo.specs.Solos.{view_of}
 use Rattle.mi_solo.specs.WorkSections as made
-use Rattle.mi_solo.proofs.BoardTurns.{board_does, work_event, work_is}
+use Rattle.mi_solo.proofs.BoardTurns.{board_does, publish_event, publish_is, work_event, work_is}
 use Rattle.mi_solo.proofs.CoreLemmas.{there}
 use Rattle.mi_solo.proofs.GatherEvents.{gathers_down, gathers_memory, gathers_on, gathers_right}
 use Rattle.mi_solo.proofs.PageAnswers.{page_is}
+use Rattle.mi_solo.proofs.GatheredLemmas.{may_publish}
 use Rattle.mi_solo.proofs.PageTurns.{page_does}
+use Rattle.mi_solo.proofs.PublishSections.{leaf_enters}
 use Rattle.mi_solo.proofs.SoloLemmas.{Answered, after_view, answered, now, solo_of}
 use Rattle.mi_solo.proofs.SweepSections.{last_swept, row_sweeps, sweep_event, sweep_is}
 use Rattle.mi_solo.proofs.SweepEvents.{sweeps_down, sweeps_on, sweeps_right}
@@ -46,7 +48,7 @@ module _ (c d : Core) (a : ℕ) (k : Kept (state_of c)) (g : IsGoing c a) where
   answer_work free r x =
       let s = state_of c in
       let its = get_or_from_slice_get s.actors a _ first_actor x.row_is in
-      go r x.does (board_does s a (state_of d) x (work_event r) (work_is s a x.row x.made x.board (subst IsFree its free) r x.does))
+      go r x.does (board_does s a (state_of d) x (work_event r) (work_is s a (made_by a c.board.log) x.row x.made x.board (subst IsFree its free) r x.does))
     where
       go : (r : Work) → WorksRow a r c.board x.row x.board x.made → Does (state_of c) a (work_event r) (state_of d) → Answered c d a (λ v w. GivesWork v w r)
       go (work.Sweep p) h y = answered c d a k g y tt (gives_sweep p (state_of c) k a (actor_in (state_of c) a) _ (there c a g.known) g.going y.can (now c d a k g y))
@@ -56,11 +58,22 @@ module _ (c d : Core) (a : ℕ) (k : Kept (state_of c)) (g : IsGoing c a) where
   pub answer_up : (pages : Bool) → Does (state_of c) a (give_up_event pages) (state_of d) → Answered c d a (λ v w. GivesUp v w pages)
   answer_up pages x = answered c d a k g x tt ((gives_up pages) (state_of c) k a (actor_in (state_of c) a) _ (there c a g.known) g.going x.can (now c d a k g x))
 
-  pub answer_publish : (r : Result Position NoMemory) → made.Publishes (state_of c) a r (state_of d) → Answered c d a (λ v w. Publishes v w r)
-  answer_publish (Ok position) x =
-      answered c d a k g x.0 tt (subst (λ z. Publishes (view_of (solo_of c a)) (after_view c d a k g x.0) (Ok z)) (sym (x.1 ∙ ap (λ (s : State). end_of s.board.log) x.0.is))
-      (publishes (state_of c) k a (actor_in (state_of c) a) _ (there c a g.known) g.going x.0.can (now c d a k g x.0)))
-  answer_publish (Err e) x = answered c d a k g x tt (publishes_none e (state_of c) k a (actor_in (state_of c) a) _ (there c a g.known) g.going x.can (now c d a k g x))
+  pub answer_publish : IsGathered (view_in (state_of c) a) → (view_in (state_of c) a).copied ≡ length (view_in (state_of c) a).copies
+      → (r : Result Position NoMemory) → OnBoard (state_of c) a (PublishesRow a r) (state_of d) → Answered c d a (λ v w. Publishes v w r)
+  answer_publish whole all r x =
+      let s = state_of c in
+      let q = actor_in s a in
+      let its : q ≡ actor_of c.board.settings c.board.log a x.row = get_or_from_slice_get s.actors a _ first_actor x.row_is in
+      let can = subst (λ (z : Actor). Can s a z publish) its (may_publish s k a q (there c a g.known) whole all) in
+      let leaf = leaf_enters s k a q (there c a g.known) x.row (ap (λ (z : Actor). z.split) its) whole all ∙ ap (λ (z : Actor). leaf_or z.claim) its in
+      go r x.does (board_does s a (state_of d) x (publish_event r) (publish_is s a (made_by a c.board.log) x.row x.made x.board can leaf r x.does))
+    where
+      go : (r : Result Position NoMemory) → PublishesRow a r c.board x.row x.board x.made → Does (state_of c) a (publish_event r) (state_of d) → Answered c d a (λ v w. Publishes v w r)
+      go (Ok position) h y =
+          let seen : position ≡ end_of (after (state_of c) a (actor_in (state_of c) a) publish).board.log = h.0.0 ∙ sym (ap (λ (s : State). end_of s.board.log) x.is) ∙ ap (λ (s : State). end_of s.board.log) y.is in
+          answered c d a k g y tt (subst (λ z. Publishes (view_of (solo_of c a)) (after_view c d a k g y) (Ok z)) (sym seen)
+          (publishes (state_of c) k a (actor_in (state_of c) a) _ (there c a g.known) g.going y.can (now c d a k g y)))
+      go (Err e) h y = answered c d a k g y tt (publishes_none e (state_of c) k a (actor_in (state_of c) a) _ (there c a g.known) g.going y.can (now c d a k g y))
 
   -- a page is swept
   pub answer_sweep : (page : ℕ) → IsSome (view_in (state_of c) a).sweep → (node_in (state_of c) page).low ≤ (view_in (state_of c) a).swept → (r : Visit)

@@ -1,13 +1,11 @@
 -- What each section does, told by cases on what it answers.
-use Rattle.std.specs.Prelude.{◌≡◌, ◌+◌, ◌==◌, ℕ, List, [], ◌∷◌, true, length, Option, Some, None, Result, Ok, Err}
+use Rattle.std.specs.Prelude.{◌≡◌, ◌+◌, ◌==◌, ℕ, List, true, length, Option, Some, None, Result, Ok, Err}
 use Rattle.std.specs.List.{find}
-use Rattle.mi_base.specs.declared.refusals.NoMemory.{NoMemory}
-use Rattle.mi_base.specs.Permutations.{begins}
 use Rattle.mi_board.specs.Actors.{with_reserved}
 use Rattle.mi_board.specs.Boards.{BoardState, HasRoom, IsFull, look_of, with_actor}
 use Rattle.mi_core.specs.Events.{hand, leaf_or}
-use Rattle.mi_core.specs.Events.Event.{allot, claim_leaf, claim_shard, lack, miss_shard, pin, refuse, reserve, see, trim, visit}
-use Rattle.mi_core.specs.Refusals.Refusal.{full, held, pages_full}
+use Rattle.mi_core.specs.Events.Event.{claim_shard, miss_shard, refuse, reserve, see, trim, visit}
+use Rattle.mi_core.specs.Refusals.Refusal.{full}
 use Rattle.mi_core.specs.State.{State}
 use Rattle.mi_entries.specs.Records.{Rows, Shard, home, shard_at}
 use Rattle.mi_solo.specs.States.{Does, actor_in, node_in}
@@ -15,15 +13,9 @@ use Rattle.mi_solo.specs.Viewing.{record_shown}
 use Rattle.mi_key.specs.declared.ranges.Interval.{Interval}
 use Rattle.mi_entries.specs.Actors.{Pin}
 use Rattle.mi_solo.specs.Seeking.{AnswersVisit, TrimsTo}
-use Rattle.mi_tree.specs.declared.answers.AllotRefusal.{AllotRefusal}
-use Rattle.mi_tree.specs.declared.answers.AllotRefusal.TheVariants as allots
-use Rattle.mi_tree.specs.declared.answers.LeafClaim.{LeafClaim}
-use Rattle.mi_tree.specs.declared.answers.LeafClaim.TheVariants.{Taken as LeafTaken, Held as LeafHeld}
 use Rattle.mi_tree.specs.declared.answers.Look.{Look}
 use Rattle.mi_tree.specs.declared.answers.ReserveRefusal.{ReserveRefusal}
 use Rattle.mi_tree.specs.declared.answers.ReserveRefusal.TheVariants as refused
-use Rattle.mi_tree.specs.Counting.{leaves_beginning}
-use Rattle.mi_tree.specs.Legal.{cells_of}
 use Rattle.mi_world.specs.declared.answers.ShardClaim.{ShardClaim}
 use Rattle.mi_world.specs.declared.answers.Visit.{Visit}
 use Rattle.mi_world.specs.declared.answers.Visit.TheVariants.{Down, Right, Read}
@@ -63,22 +55,6 @@ Reserves s a (Ok look) t =
     Does s a (reserve (shard_in s a) (rows_at s (shard_in s a)) (length (rows_at s (shard_in s a)).records + 1)) t × (look ≡ look_of t.board)
 Reserves s a (Err (refused.Full limit)) t = Does s a (refuse full) t × (limit ≡ s.board.settings.updates)
 Reserves s a (Err refused.Memory) t = Does s a see t
-
--- the leaf of a permutation is claimed, or another actor claims it
-abbrev pub ClaimsLeaf : State → ℕ → List ℕ → LeafClaim → State → Type 0
-ClaimsLeaf s a perm (LeafTaken leaf) t = Does s a (claim_leaf leaf.prefix) t × (leaves_beginning perm (cells_of s.board.settings s.board.log) ≡ leaf ∷ [])
-ClaimsLeaf s a perm (LeafHeld by) t = (leaf : List ℕ) × Does s a (refuse (held leaf by)) t × (begins leaf perm ≡ true)
-
--- the whole log is pinned, or memory is wanted
-abbrev pub Pins : State → ℕ → Result Look NoMemory → State → Type 0
-Pins s a (Ok look) t = Does s a pin t × (look ≡ look_of t.board)
-Pins s a (Err e) t = Does s a see t
-
--- a page is taken in hand, or all are allotted, or memory is wanted
-abbrev pub Allots : State → ℕ → Result (Unit {0}) AllotRefusal → State → Type 0
-Allots s a (Ok _) t = Does s a allot t
-Allots s a (Err (allots.PagesFull limit)) t = Does s a (refuse pages_full) t × (limit ≡ s.board.settings.pages)
-Allots s a (Err allots.Memory) t = Does s a lack t
 
 -- a page is read, or the way goes on at another
 pub record Visits (s : State) (a page : ℕ) (range : Interval) (result : Visit) (t : State) : Type 0 where

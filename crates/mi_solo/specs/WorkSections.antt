@@ -1,9 +1,7 @@
 -- What the sections of splits and sweeps do, told by cases on what they answer.
-use Rattle.std.specs.Prelude.{◌≡◌, ℕ, Result, Ok, Err}
+use Rattle.std.specs.Prelude.{ℕ, Result, Ok, Err}
 use Rattle.mi_base.specs.declared.refusals.NoMemory.{NoMemory}
-use Rattle.mi_base.specs.declared.records.Position.{Position}
-use Rattle.mi_base.specs.History.{end_of}
-use Rattle.mi_core.specs.Events.Event.{gather, publish, see, start}
+use Rattle.mi_core.specs.Events.Event.{gather, start}
 use Rattle.mi_core.specs.State.{State}
 use Rattle.mi_solo.specs.Seeking.{PointsDown, PointsRight, ReadsOn}
 use Rattle.mi_solo.specs.States.{Does, node_in, view_in}
@@ -17,8 +15,3 @@ Gathers s a page (Ok (Down p)) t = Does s a (start page) t × PointsDown (node_i
 Gathers s a page (Ok (Right p)) t = Does s a (start page) t × PointsRight (node_in s page) 0 (gather_key (view_in s a)) p
 Gathers s a page (Ok (Read next)) t = Does s a (gather page (node_in s page)) t × ReadsOn (node_in s page) (last_key (view_in s a) (view_in s a).leaf) next
 Gathers s a page (Err e) t = Does s a (start page) t
-
--- the split enters the log, or memory was wanted
-abbrev pub Publishes : State → ℕ → Result Position NoMemory → State → Type 0
-Publishes s a (Ok position) t = Does s a publish t × (position ≡ end_of t.board.log)
-Publishes s a (Err e) t = Does s a see t

@@ -3,15 +3,17 @@ ghost use Rattle.std.specs.Prelude.{◌≡◌, ◌<◌, None, IsSome, is_some, l
 ghost use Rattle.mi_board.specs.Boards.{look_of};
 ghost use Rattle.mi_core.specs.Events.Event.{look, release_leaf, unpin};
 ghost use Rattle.mi_core.specs.Kept.{Kept};
-ghost use Rattle.mi_solo.specs.Sections.{Allots, ClaimsLeaf, Pins, Reserves};
+ghost use Rattle.mi_solo.specs.BoardRows.{AllotsRow, ClaimsRow, PinsRow};
+ghost use Rattle.mi_solo.specs.OnBoards.{OnBoard};
+ghost use Rattle.mi_solo.specs.Sections.{Reserves};
 ghost use Rattle.mi_solo.specs.States.{Does, IsGoing, actor_in, state_of};
 
+use crate::board_rows::{allot_row, claim_row, pin_row};
 use crate::cores::Core;
-use crate::rows::PinRow;
-use mi_base::{NoMemory, Perm, Steps};
+use mi_base::{NoMemory, Perm};
 use mi_tree::{AllotRefusal, LeafClaim, Look, ReserveRefusal};
 use std::alloc::Global;
-use std::sync::ledger::Ledger;
+use std::sync::ledger::{Blank, Ledger};
 
 impl Core {
     /// Sees the whole log.
@@ -55,15 +57,10 @@ impl Core {
         requires long { length perm.now ≡ length self.old.board.settings.pivots }
         requires free { (actor_in (state_of self.old) actor).claim ≡ None }
         requires idle { (actor_in (state_of self.old) actor).sweep ≡ None }
-        ensures { ClaimsLeaf (state_of self.old) actor perm.now result (state_of self.new) }
+        ensures { OnBoard (state_of self.old) actor (ClaimsRow actor perm.now result) (state_of self.new) }
     {
-        let claim = self.board.claim_leaf(actor, perm);
         let me = &mut self.actors[actor as usize];
-        match &claim {
-            LeafClaim::Taken { leaf } => me.take_leaf(&self.board, &leaf.prefix),
-            LeafClaim::Held { .. } => me.see(&self.board),
-        }
-        claim
+        claim_row(actor, perm, &mut self.board, me)
     }
 
     /// Ends the claim of the leaf.
@@ -83,25 +80,18 @@ impl Core {
         &mut self,
         alloc: Global,
         actor: u32,
-        steps: &mut Steps<L>,
+        blank: Blank,
     ) -> Result<Look, NoMemory>
+        requires name { blank.name ≡ L.name }
+        requires parts { blank.parts ≡ L.parts }
+        requires some { 0 < blank.parts }
         requires going { IsGoing self.old actor }
         requires kept { Kept (state_of self.old) }
         requires free { (actor_in (state_of self.old) actor).pin ≡ None }
-        ensures { Pins (state_of self.old) actor result (state_of self.new) }
+        ensures { OnBoard (state_of self.old) actor (PinsRow actor result) (state_of self.new) }
     {
-        let floor = self.board.look().floor;
-        match self.board.pin(alloc, actor, steps) {
-            Ok((look, cells)) => {
-                let pin = PinRow { at: look.at, cells };
-                self.actors[actor as usize].pin(&self.board, floor, pin);
-                Ok(look)
-            }
-            Err(refusal) => {
-                self.actors[actor as usize].see(&self.board);
-                Err(refusal)
-            }
-        }
+        let me = &mut self.actors[actor as usize];
+        pin_row::<L>(alloc, actor, &mut self.board, me, blank)
     }
 
     /// Ends the pin.
@@ -135,22 +125,9 @@ impl Core {
     pub fn allot(&mut self, alloc: Global, actor: u32) -> Result<(), AllotRefusal>
         requires going { IsGoing self.old actor }
         requires free { (actor_in (state_of self.old) actor).fresh ≡ None }
-        ensures { Allots (state_of self.old) actor result (state_of self.new) }
+        ensures { OnBoard (state_of self.old) actor (AllotsRow result) (state_of self.new) }
     {
         let me = &mut self.actors[actor as usize];
-        match me.hand.allot(alloc, &mut self.board) {
-            Ok(()) => {
-                me.see(&self.board);
-                Ok(())
-            }
-            Err(AllotRefusal::PagesFull { limit }) => {
-                me.see(&self.board);
-                Err(AllotRefusal::PagesFull { limit })
-            }
-            Err(AllotRefusal::Memory) => {
-                me.lack(&self.board);
-                Err(AllotRefusal::Memory)
-            }
-        }
+        allot_row(alloc, &mut self.board, me)
     }
 }

@@ -7,20 +7,20 @@ ghost use Rattle.mi_core.specs.Counted.{total};
 ghost use Rattle.mi_core.specs.Events.{opened};
 ghost use Rattle.mi_core.specs.Events.Event.{see};
 ghost use Rattle.mi_core.specs.Kept.{Kept};
-ghost use Rattle.mi_solo.specs.Sections.{Pins, Trims};
+ghost use Rattle.mi_solo.specs.Sections.{Trims};
 ghost use Rattle.mi_world.specs.Pages as pages;
 ghost use Rattle.mi_solo.specs.States.{Does, IsGoing, actor_in, state_of};
 ghost use Rattle.mi_solo.specs.Solos.{MayTurn, Section, entries_on, view_of};
 
 use crate::cores::Core;
-use mi_base::{Dists, Id, LogEvent, NoMemory, Perm, Position, Settings, Steps, Vector};
+use mi_base::{Dists, Id, LogEvent, NoMemory, Perm, Position, Settings, Vector};
 use mi_key::{Interval, Key, Sieve};
 use mi_page::Page;
 use mi_tree::{AllotRefusal, Catalog, LeafClaim, Look, ReserveRefusal, Work};
 use mi_world::{Commit, Parted, Put, ShardClaim, Visit, World};
 use std::alloc::Global;
 use std::marker::{Brand, Model};
-use std::sync::ledger::{Blank, Ledger};
+use std::sync::ledger::Blank;
 
 /// The core that all actors share, and the actor whose turn it is. What is gathered is kept in the
 /// memory that was given at the opening.
@@ -151,7 +151,7 @@ impl World for Solo {
     }
 
     fn pin(&mut self, alloc: Global) -> Result<Look, NoMemory> {
-        pin_uncounted::<Brand>(&mut self.core, alloc, self.turn, Blank::new(1))
+        self.core.pin::<Brand>(alloc, self.turn, Blank::new(1))
     }
 
     fn pinned(&self) -> &Catalog {
@@ -258,24 +258,6 @@ impl World for Solo {
     }
 
     ghost none = { section_none };
-}
-
-/// Pins the whole log for the actor, with a counter that nobody reads.
-fn pin_uncounted<L: Ledger>(
-    core: &mut Core,
-    alloc: Global,
-    actor: u32,
-    blank: Blank,
-) -> Result<Look, NoMemory>
-    requires name { blank.name ≡ L.name }
-    requires parts { blank.parts ≡ L.parts }
-    requires some { 0 < blank.parts }
-    requires going { IsGoing core.old actor }
-    requires kept { Kept (state_of core.old) }
-    requires free { (actor_in (state_of core.old) actor).pin ≡ None }
-    ensures { Pins (state_of core.old) actor result (state_of core.new) }
-{
-    core.pin(alloc, actor, &mut Steps::<L>::new(blank))
 }
 
 impl Core {

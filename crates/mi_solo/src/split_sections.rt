@@ -3,15 +3,14 @@ ghost use Rattle.std.specs.Prelude.{◌≡◌, ◌<◌, ◌≤◌, None, IsSome,
 ghost use Rattle.mi_core.specs.Events.Event.{give_up};
 ghost use Rattle.mi_core.specs.Kept.{Kept};
 ghost use Rattle.mi_solo.specs.States.{Does, IsGoing, actor_in, is_linked, node_in, state_of, view_in};
-ghost use Rattle.mi_solo.specs.BoardRows.{WorksRow};
+ghost use Rattle.mi_solo.specs.BoardRows.{PublishesRow, WorksRow};
 ghost use Rattle.mi_solo.specs.OnBoards.{OnBoard};
-ghost use Rattle.mi_solo.specs.WorkSections.{Gathers, Publishes};
+ghost use Rattle.mi_solo.specs.WorkSections.{Gathers};
 ghost use Rattle.mi_world.specs.Splits.{IsGathered, MayGather, copied_in, gather_key, gathered_in};
 
-use crate::board_rows::work_row;
+use crate::board_rows::{publish_row, work_row};
 use crate::cell_keys::{cell_keys, end_key, first_key};
 use crate::cores::Core;
-use crate::placing::placed_objects;
 use crate::seeking::{Way, next_page, seek};
 use mi_base::{NoMemory, Position};
 use mi_tree::Work;
@@ -98,29 +97,10 @@ impl Core {
         requires kept { Kept (state_of self.old) }
         requires whole { IsGathered (view_in (state_of self.old) actor) }
         requires copied { (view_in (state_of self.old) actor).copied ≡ length (view_in (state_of self.old) actor).copies }
-        ensures { Publishes (state_of self.old) actor result (state_of self.new) }
+        ensures { OnBoard (state_of self.old) actor (PublishesRow actor result) (state_of self.new) }
     {
         let me = &mut self.actors[actor as usize];
-        let Some(work) = &me.split else {
-            unreachable!();
-        };
-        let objects = match placed_objects(alloc, &work.gathered) {
-            Ok(objects) => objects,
-            Err(refusal) => {
-                me.see(&self.board);
-                return Err(refusal);
-            }
-        };
-        match self.board.publish(alloc, actor, &objects) {
-            Ok(position) => {
-                me.end_split(&self.board);
-                Ok(position)
-            }
-            Err(refusal) => {
-                me.see(&self.board);
-                Err(refusal)
-            }
-        }
+        publish_row(alloc, actor, &mut self.board, me)
     }
 
     /// Ends the claim of the leaf and its split, of which no copy is left. For want of pages the leaf is passed over.

@@ -1,12 +1,14 @@
+use Rattle.mi_solo.proofs.BoardTurns.{pins_keep}
 use Rattle.mi_hall.proofs.AbsorbedLemmas.{kept_gone}
-use Rattle.mi_hall.proofs.PinCall.{pins_cells, pin_free, pin_known, pins_does, pins_hand, pins_root, pins_shard, pins_told}
+use Rattle.mi_hall.proofs.PinCall.{pin_free, pins_cells, pins_does, pins_told}
 use Rattle.std.proofs.Common.{◌∙◌}
 use Rattle.mi_hall.proofs.NamedPages.{board_near}
 use Rattle.mi_hall.proofs.PassLemmas.{given_at, given_pass, word_stays}
+use Rattle.mi_hall.proofs.RowCalls.{row_known}
 use Rattle.mi_hall.proofs.passes.Pass.pin.Goals as goal
 
 pub pin_row-result-requires-clause-known : goal.pin_row-result-requires-clause-known
-pin_row-result-requires-clause-known g c = let e = c.take_board-board.ensures in pin_known _ _ _ _ _ _ _ _ c.self.invariant.0 e.took e.told _ _ c.self.view_is c.requires.free
+pin_row-result-requires-clause-known g c = let e = c.take_board-board.ensures in row_known _ _ _ _ _ _ _ _ c.self.invariant.0 e.took e.told
 
 pub pin_row-result-requires-clause-free : goal.pin_row-result-requires-clause-free
 pin_row-result-requires-clause-free g c = let e = c.take_board-board.ensures in pin_free _ _ _ _ _ _ _ _ c.self.invariant.0 e.took e.told _ _ c.self.view_is c.requires.free
@@ -19,14 +21,16 @@ give_board-requires-clause-does g c = let e = c.take_board-board.ensures in pins
 
 pub invariant_of-self : goal.invariant_of-self
 invariant_of-self g c =
-    let e = c.take_board-board.ensures in (
-      given_pass _ _ _ _ _ _ _ _ _ _ _ c.self.invariant.0 e.took c.give_board.ensures.gave (pins_shard _ _ _ _ _ _ _ _ c.self.invariant.0 e.took e.told _ _ c.self.view_is c.requires.free _ _ c.pin_row-result.result c.pin_row-result.ensures),
-      board_near _ _ _ _ _ _ _ _ _ _ _ _ c.self.invariant.0.live e.took e.told c.give_board.ensures.gave (pins_root _ _ _ _ _ _ _ _ c.self.invariant.0 e.took e.told _ _ c.self.view_is c.requires.free _ _ c.pin_row-result.result c.pin_row-result.ensures) c.args.latches.now.words c.self.view_is c.requires.table (c.give_board.ensures.table.0 ∙ e.table.0) c.self.invariant.1,
+    let e = c.take_board-board.ensures in
+    let d = c.pin_row-result in
+    let keeps = pins_keep c.self.inside.actor c.take_board-board.result d.new.board c.self.inside.row d.new.row d.result d.ensures in (
+      given_pass _ _ _ _ _ _ _ _ _ _ _ c.self.invariant.0 e.took c.give_board.ensures.gave keeps.0.shard,
+      board_near _ _ _ _ _ _ _ _ _ _ _ _ c.self.invariant.0.live e.took e.told c.give_board.ensures.gave keeps.0.root c.args.latches.now.words c.self.view_is c.requires.table (c.give_board.ensures.table.0 ∙ e.table.0) c.self.invariant.1,
       pins_cells _ _ _ _ _ _ _ _ c.self.invariant.0 e.took e.told _ _ c.self.view_is c.requires.free _ _ c.pin_row-result.result c.pin_row-result.ensures _ c.give_board.ensures.gave,
-      word_stays _ _ _ _ (c.give_board.ensures.table.0 ∙ e.table.0) (pins_hand _ _ _ _ _ _ _ _ c.self.invariant.0 e.took e.told _ _ c.self.view_is c.requires.free _ _ c.pin_row-result.result c.pin_row-result.ensures) c.self.invariant.3,
+      word_stays _ _ _ _ (c.give_board.ensures.table.0 ∙ e.table.0) keeps.1 c.self.invariant.3,
       given_at _ _ _ c.give_board.ensures.gave c.give_board.ensures.at,
       kept_gone _ _ _ c.give_board.ensures.gave (kept_gone _ _ _ e.took c.self.invariant.5),
     )
 
 pub returns-clause-told : goal.returns-clause-told
-returns-clause-told g c = let e = c.take_board-board.ensures in pins_told _ _ _ _ _ _ _ _ c.self.invariant.0 e.took e.told _ _ c.self.view_is c.requires.free _ _ c.pin_row-result.result c.pin_row-result.ensures _ c.give_board.ensures.gave
+returns-clause-told g c = let e = c.take_board-board.ensures in pins_told _ _ _ _ _ _ _ _ c.self.invariant.0 e.took e.told _ _ c.self.view_is c.requires.free _ _ _ c.give_board.ensures.gave c.pin_row-result.result c.pin_row-result.ensures

@@ -1,7 +1,5 @@
-use Rattle.std.proofs.Common.{arith, subst, sym, ap, ◌∙◌, ◌+◌, ◌≡◌, length}
-use Rattle.mi_latch.specs.Ends.{Leaves}
+use Rattle.std.proofs.Common.{arith, subst, sym, ◌∙◌, ◌+◌, length}
 use Rattle.mi_world.specs.Families.{ClaimsNothing}
-use Rattle.mi_hall.specs.Absorbed.{most}
 use Rattle.mi_hall.specs.Closing.{Closes, IsLast}
 use Rattle.mi_hall.specs.Passes.{PassState}
 use Rattle.mi_hall.specs.Seats.{seat_view}

@@ -1,7 +1,6 @@
-use Rattle.std.proofs.Common.{◌∙◌, ap}
-use Rattle.mi_core.specs.Actors.{made_by}
+use Rattle.std.proofs.Common.{◌∙◌}
 use Rattle.mi_solo.specs.BoardRows.{WorksRow}
-use Rattle.mi_solo.proofs.BoardTurns.{on_the_board, work_stays}
+use Rattle.mi_solo.proofs.BoardTurns.{on_the_board, works_keep}
 use Rattle.mi_solo.proofs.CoreLemmas.{on_board, suits}
 use Rattle.mi_solo.proofs.WorkSections.{retired_fits}
 use Rattle.mi_solo.proofs.cores.Core.next_work.Goals as goal
@@ -18,6 +17,5 @@ work_row-requires-clause-cells c = retired_fits c.args.self.now c.requires.kept
 pub returns : goal.returns
 returns c =
     let s = c.args.self.now in
-    let stays = work_stays c.args.actor s.board c.work_row.new.board c.work_row.result c.work_row.ensures.0 in
     on_the_board s c.args.actor c.requires.going.known c.index_mut-me.result.now c.index_mut-me.ensures.value (WorksRow c.args.actor c.work_row.result) c.work_row.new.board c.work_row.new.row
-    stays.0 (λ m other. ap (made_by m) stays.1) c.work_row.ensures
+    (works_keep c.args.actor s.board c.work_row.new.board _ _ c.work_row.result c.work_row.ensures).0 c.work_row.ensures

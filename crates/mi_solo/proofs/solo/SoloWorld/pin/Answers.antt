@@ -7,20 +7,20 @@ use Rattle.mi_solo.proofs.solo.SoloWorld.pin.Goals as goal
 pub invariant_of-self : goal.invariant_of-self
 invariant_of-self c =
     let s = c.self.inside in
-    let d = c.pin_uncounted.new.core in
-    let x = answer_pin s.core d s.turn c.self.invariant.0 c.self.invariant.1 (subst (λ (t : SoloState). (view_of t).pin ≡ None) (sym c.self.view_is) c.requires) c.pin_uncounted.result c.pin_uncounted.ensures in
+    let d = c.pin.new.self in
+    let x = answer_pin s.core d s.turn c.self.invariant.0 c.self.invariant.1 (subst (λ (t : SoloState). (view_of t).pin ≡ None) (sym c.self.view_is) c.requires) c.pin.result c.pin.ensures in
     stays_so s.core d s.turn x c.self.invariant.0 c.self.invariant.1
 
 pub returns-clause-told : goal.returns-clause-told
 returns-clause-told c =
     let s = c.self.inside in
-    let d = c.pin_uncounted.new.core in
-    let x = answer_pin s.core d s.turn c.self.invariant.0 c.self.invariant.1 (subst (λ (t : SoloState). (view_of t).pin ≡ None) (sym c.self.view_is) c.requires) c.pin_uncounted.result c.pin_uncounted.ensures in
+    let d = c.pin.new.self in
+    let x = answer_pin s.core d s.turn c.self.invariant.0 c.self.invariant.1 (subst (λ (t : SoloState). (view_of t).pin ≡ None) (sym c.self.view_is) c.requires) c.pin.result c.pin.ensures in
     told_at s.core d s.turn x c.args.self.now c.self.view_is
 
 pub returns-clause-section : goal.returns-clause-section
 returns-clause-section c =
     let s = c.self.inside in
-    let d = c.pin_uncounted.new.core in
-    let x = answer_pin s.core d s.turn c.self.invariant.0 c.self.invariant.1 (subst (λ (t : SoloState). (view_of t).pin ≡ None) (sym c.self.view_is) c.requires) c.pin_uncounted.result c.pin_uncounted.ensures in
+    let d = c.pin.new.self in
+    let x = answer_pin s.core d s.turn c.self.invariant.0 c.self.invariant.1 (subst (λ (t : SoloState). (view_of t).pin ≡ None) (sym c.self.view_is) c.requires) c.pin.result c.pin.ensures in
     section_at s.core d s.turn x c.self.invariant.0 c.self.invariant.1 c.args.self.now c.self.view_is

@@ -3,7 +3,7 @@ use Rattle.std.proofs.lemmas.Option.{none-some, same_Some}
 use Rattle.mi_board.specs.Boards.{MayPublish, leaf_claimed}
 use Rattle.mi_solo.specs.declared.rows.SplitRow.{SplitRow}
 use Rattle.mi_solo.specs.Placing.{placed_entry}
-use Rattle.mi_hall.proofs.publish_call.publish_row.Goals as goal
+use Rattle.mi_solo.proofs.board_rows.publish_row.Goals as goal
 
 pub unreachable-requires : goal.unreachable-requires
 unreachable-requires c = none-some c.requires.0 (sym c.in_default.is ∙ c.requires.1)
