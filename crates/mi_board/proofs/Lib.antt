@@ -6,4 +6,3 @@ pub mod FoundLemmas
 pub mod MarkLemmas
 pub mod RetiredLemmas
 pub mod StepLemmas
-pub mod ConditionLemmas

@@ -11,10 +11,3 @@ pub use actors::ActorState;
 pub use boards::{Board, Pinned};
 pub use retired::RetiredLeaf;
 pub use shared::KeptCatalog;
-
-#[cfg(test)]
-mod conditions;
-#[cfg(test)]
-mod plain;
-#[cfg(test)]
-mod tests;

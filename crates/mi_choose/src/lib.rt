@@ -11,6 +11,3 @@ use mi_base::Sequence;
 
 /// The places of objects in their list, from 0.
 pub type Places = Sequence<u32>;
-
-#[cfg(test)]
-mod tests;

@@ -17,6 +17,3 @@ pub use numbers::count;
 pub use schedules::read_schedule;
 pub use scripts::read_script;
 pub use settings::read_settings;
-
-#[cfg(test)]
-mod tests;

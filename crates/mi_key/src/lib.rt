@@ -12,6 +12,3 @@ pub use distances::interval;
 pub use entries::{Entry, Sieve};
 pub use keys::{Key, KeyParts};
 pub use ranges::Interval;
-
-#[cfg(test)]
-mod tests;

@@ -5,6 +5,3 @@ mod draws;
 mod workload;
 
 pub use workload::{Workload, make};
-
-#[cfg(test)]
-mod tests;

@@ -15,6 +15,3 @@ pub use nearest::NearestOp;
 pub use order::{Rank, ranked};
 pub use sieve::NearestSieve;
 pub use work::NearestWork;
-
-#[cfg(test)]
-mod tests;

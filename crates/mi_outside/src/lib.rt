@@ -17,6 +17,3 @@ pub use memory_sink::MemorySink;
 pub use reading::{Files, ReadRefusal};
 pub use steady::{SteadyFiles, SteadySink};
 pub use writing::{Sink, SinkFailed, write_all};
-
-#[cfg(test)]
-mod tests;

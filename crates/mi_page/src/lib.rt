@@ -13,6 +13,3 @@ pub use laws::{
 };
 pub use pages::Page;
 pub use routes::Route;
-
-#[cfg(test)]
-mod tests;

@@ -6,6 +6,3 @@ mod ordering;
 
 pub use measuring::Pivots;
 pub use ordering::{key_distance, permutation};
-
-#[cfg(test)]
-mod tests;

@@ -4,8 +4,6 @@
 mod figures;
 mod laws;
 mod line;
-#[cfg(test)]
-mod tests;
 mod transcript;
 
 pub use figures::summary;

@@ -14,6 +14,3 @@ pub use laws::{
 pub use range::RangeOp;
 pub use sieve::RangeSieve;
 pub use work::RangeWork;
-
-#[cfg(test)]
-mod tests;

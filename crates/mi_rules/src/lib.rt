@@ -10,6 +10,3 @@ pub use bounds::{bound, passes};
 pub use filters::filter;
 pub use laws::{filter_implies_passing, no_answer_is_dropped, passing_grows};
 pub use spans::{near_span, span};
-
-#[cfg(test)]
-mod tests;

@@ -4,6 +4,3 @@
 mod rows;
 
 pub use rows::{RecordRow, ShardRows};
-
-#[cfg(test)]
-mod tests;

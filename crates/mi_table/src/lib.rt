@@ -9,6 +9,3 @@ mod tables;
 pub use any::AnyMetric;
 pub use faults::TableFault;
 pub use tables::TableMetric;
-
-#[cfg(test)]
-mod tests;

@@ -22,6 +22,3 @@ pub use laws::{
 };
 pub use outcomes::{Leaf, Leaves, Outcome};
 pub use refusals::SplitRefusal;
-
-#[cfg(test)]
-mod tests;

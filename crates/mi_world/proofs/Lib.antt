@@ -1,3 +1,2 @@
-pub mod LoneLemmas
 pub mod QueryLemmas
 pub mod ViewLemmas

@@ -1,4 +1,0 @@
-use Rattle.mi_board.proofs.conditions.placed_at.Given as goal
-
-abbrev pub ghosts-place : goal.ghosts-place
-ghosts-place g a = record { name = a.blank.name; parts = a.blank.parts }

@@ -1,6 +1,0 @@
-use Rattle.std.proofs.Common.{◌≡◌}
-use Rattle.mi_base.specs.Permutations.{distances}
-use Rattle.mi_nearest.proofs.tests.counted.Given as goal
-
-abbrev pub invariant-loop-number : goal.invariant-loop-number
-invariant-loop-number g l = l.work.dists ≡ distances (record { metric = g.M.Metric.space l.metric; pivots = l.pivots }) l.query

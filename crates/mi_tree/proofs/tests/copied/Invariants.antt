@@ -1,4 +1,0 @@
-use Rattle.mi_tree.proofs.tests.copied.Given as goal
-
-abbrev pub ghosts-copy : goal.ghosts-copy
-ghosts-copy a = record { name = a.blank.name; parts = a.blank.parts }
