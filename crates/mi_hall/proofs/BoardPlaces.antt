@@ -109,9 +109,13 @@ pub claims_held_seated : (leaf : List ℕ) (by : ℕ) → BoardMakes (refuse (he
 claims_held_seated leaf by = board_lifts (refuse (held leaf by)) untold (λ c v w. (perm : List ℕ) → IsTrue (is_permutation perm) → length perm ≡ length c.board.settings.pivots → begins leaf perm ≡ true → v.leaf ≡ None → ClaimsLeaf v w perm (claiming.Held by)) (λ c v w. (perm : List ℕ) → IsTrue (is_permutation perm) → length perm ≡ length c.board.settings.pivots → begins leaf perm ≡ true → v.leaf ≡ None → ClaimsLeaf v w perm (claiming.Held by)) (claims_held leaf by)
     (λ s a r there can. (_, set_there s.actors a _ r there, refl)) (λ s v w n k names shown x perm is long under free. claims_leaf_by v w n k names shown perm (claiming.Held by) (x perm is long under free))
 
-pub releases_leaf_seated : BoardMakes release_leaf untold (λ c v w. ReleasesLeaf v w)
-releases_leaf_seated = board_lifts release_leaf untold (λ c v w. ReleasesLeaf v w) (λ c v w. ReleasesLeaf v w) releases_leaf
-    (λ s a r there can. (_, set_there s.actors a _ r there, refl)) (λ s v w n k names shown x. releases_leaf_by v w n k names shown x)
+-- whether the claimed leaf is passed over is as it was noted
+pub releases_leaf_seated : BoardMakes release_leaf untold (λ c v w. list_any (same_cell (prefix_or v.leaf)) c.board.passed_over ≡ v.passed (prefix_or v.leaf) → ReleasesLeaf v w)
+releases_leaf_seated = board_lifts release_leaf untold
+    (λ c v w. (v.passed (prefix_or v.leaf) ≡ list_any (same_cell (prefix_or v.leaf)) c.board.passed_over) × ReleasesLeaf v w)
+    (λ c v w. list_any (same_cell (prefix_or v.leaf)) c.board.passed_over ≡ v.passed (prefix_or v.leaf) → ReleasesLeaf v w)
+    (λ s k a r q there going can now. (refl, releases_leaf s k a r q there going can now))
+    (λ s a r there can. (_, set_there s.actors a _ r there, refl)) (λ s v w n k names shown x passed. releases_leaf_by v w n k names shown (x.0 ∙ passed) x.1)
 
 pub publishes_seated : BoardMakes publish untold (λ c v w. Publishes v w (Ok (end_of w.seen)))
 publishes_seated = board_lifts publish untold (λ c v w. Publishes v w (Ok (end_of w.seen))) (λ c v w. Publishes v w (Ok (end_of w.seen))) publishes

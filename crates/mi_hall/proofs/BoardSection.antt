@@ -1,9 +1,10 @@
 -- A section of the board, from a seat's take of it to its give.
 use Rattle.std.proofs.Common.{◌≡◌, ℕ, ◌+◌, Bool, true, IsTrue, refl, sym, ap, ◌∙◌, subst, Some, eq-eqb}
-use Rattle.std.specs.Prelude.{slice_get, slice_set}
+use Rattle.std.specs.Prelude.{List, slice_get, slice_set}
+use Rattle.std.specs.List.{list_any}
 use Rattle.atomic_table.specs.Table.{rest}
 use Rattle.mi_base.specs.Configuration.{Configuration}
-use Rattle.mi_board.specs.Boards.{BoardState}
+use Rattle.mi_board.specs.Boards.{BoardState, is_passed}
 use Rattle.mi_core.specs.Events.{Can, Event, after}
 use Rattle.mi_core.specs.State.{State}
 use Rattle.mi_core.proofs.ActorLemmas.{set_there}
@@ -14,12 +15,13 @@ use Rattle.mi_latch.specs.declared.slots.Slot.TheVariants.{OfBoard, OfShard}
 use Rattle.mi_latch.specs.Boards.{root_of}
 use Rattle.mi_latch.specs.Found.{FoundBoard}
 use Rattle.mi_latch.specs.Takes.{Finds, see_none, took}
-use Rattle.mi_latch.specs.Views.{Doing, Seated, Sight}
+use Rattle.mi_latch.specs.Views.{Doing, Fits, Mine, Seated, Sight}
 use Rattle.mi_latch.proofs.BoardTold.{found_board, root_there}
 use Rattle.mi_latch.proofs.Ones.{of_rows, read_shard}
-use Rattle.mi_world.specs.View.{View}
+use Rattle.mi_world.specs.View.{View, prefix_or}
 use Rattle.mi_solo.specs.declared.rows.ActorRow.{ActorRow}
 use Rattle.mi_base.specs.History.{at_position}
+use Rattle.mi_tree.specs.Cells.{same_cell}
 use Rattle.mi_tree.specs.Legal.{cells_of}
 use Rattle.mi_hall.specs.Passes.{HasCells, giving, row_actor}
 use Rattle.mi_hall.specs.Places.{BoardMakes, HasRows, HoldsRows, IsBacked, gives_board}
@@ -34,6 +36,11 @@ found_backs settings v was f holds = record {
   rows = λ n e. (let low = ((f.held.kept.sound.each v.actor v.mine.part f.fits.part).holds.shard n e).0 in
       sym (of_rows (shard_at f.core.shards n) (rows_out v.out n) (sym (read_shard f.core n f.held.kept.sound.sixteen low) ∙ f.values (n + 1) (OfShard (rows_out v.out n)) (holds n e))));
 }
+
+-- whether the claimed leaf is passed over, is as it was noted
+pub passed_noted : (c : State) (a : ℕ) (m : Mine) (leaf : List ℕ) → Fits c a m → m.part.claim ≡ Some leaf
+    → list_any (same_cell (prefix_or m.part.claim)) c.board.passed_over ≡ list_any (same_cell (prefix_or m.part.claim)) m.note.board.passed_over
+passed_noted c a m leaf f claim = subst (λ q. is_passed q c.board ≡ is_passed q m.note.board) (sym (ap prefix_or claim)) (f.knows.passed leaf claim)
 
 module _ (settings : Configuration) (old m : Seated) (b : BoardState) (live : old.0.live ≡ true) (is : m ≡ took see_none old 0 (OfBoard b)) (f : Finds settings old.0 0 (OfBoard b)) where
   -- what the take found, before it and after

@@ -46,14 +46,16 @@ module _ (v w : View) (n : Knowledge) (k : Knows v n) (names : List Named) (show
     answer = leaf_answer perm result x.answer;
   }
 
-  pub releases_leaf_by : ReleasesLeaf v w → ReleasesLeaf (view_by n v) (view_by (seeing w n.told names n) w)
-  releases_leaf_by x = record {
+  -- whether the claimed leaf is passed over, is known
+  pub releases_leaf_by : v.passed (prefix_or v.leaf) ≡ n.passed (prefix_or v.leaf) → ReleasesLeaf v w → ReleasesLeaf (view_by n v) (view_by (seeing w n.told names n) w)
+  releases_leaf_by passed x = record {
     later = later_on v w n k names shown x.later x.board;
     lacked = x.lacked;
     told = refl;
     update = update_by v w n m x.update;
     leaf = x.leaf;
     freed = x.freed;
+    passed = x.passed ∙ passed;
     apart = apart_by v w n m quiet x.apart;
     floor = x.floor;
     fresh = x.fresh;
@@ -99,7 +101,6 @@ module _ (v w : View) (n : Knowledge) (k : Knows v n) (names : List Named) (show
     answer = publish_answer result x.answer;
   }
 
-  -- whether the claimed leaf is passed over, is known
   pub gives_up_by : (pages : Bool) → v.passed (prefix_or v.leaf) ≡ n.passed (prefix_or v.leaf) → GivesUp v w pages → GivesUp (view_by n v) (view_by (seeing w n.told names n) w) pages
   gives_up_by pages passed x = record {
     later = later_on v w n k names shown x.later x.board;

@@ -7,7 +7,7 @@ use Rattle.atomic_table.specs.Seated.{TableId}
 use Rattle.atomic_table.specs.Table.{rest}
 use Rattle.mi_base.specs.Configuration.{Configuration}
 use Rattle.mi_board.specs.Actors.{actor_at}
-use Rattle.mi_board.specs.Boards.{BoardState, given_up, is_passed}
+use Rattle.mi_board.specs.Boards.{BoardState, given_up}
 use Rattle.mi_core.specs.Effects.{saw}
 use Rattle.mi_core.specs.Events.{Can}
 use Rattle.mi_core.specs.Events.Event.{give_up}
@@ -30,7 +30,7 @@ use Rattle.mi_hall.specs.Passes.{HasCells, IsPass, PassState, giving, row_actor}
 use Rattle.mi_hall.specs.Places.{IsBacked, untold}
 use Rattle.mi_hall.specs.Seats.{seat_view}
 use Rattle.mi_hall.proofs.BoardPlaces.{gives_up_seated}
-use Rattle.mi_hall.proofs.BoardSection.{board_cells, board_section, call_does, found, found_after, found_backs}
+use Rattle.mi_hall.proofs.BoardSection.{board_cells, board_section, call_does, found, found_after, found_backs, passed_noted}
 use Rattle.mi_hall.proofs.PassLemmas.{pass_rows, row_found, told_of}
 use Rattle.mi_hall.proofs.SeatConditions.{knows_backed}
 
@@ -70,10 +70,6 @@ module _ (settings : Configuration) (old m : Seated) (a : ℕ) (row : ActorRow) 
       let here : (actor_at b.actors a).claim ≡ old.0.mine.part.claim = ap (λ i. (actor_at b.actors i).claim) (sym p.actor_is) ∙ ap (λ (z : BoardState). (board_actor z old.0.actor).claim) (sym x.board) ∙ holds.claim in
       none-some leaf.0 (sym free ∙ here ∙ leaf.1)
 
-  -- whether the leaf is passed over, is as it was noted
-  passed : list_any (same_cell (prefix_or old.0.mine.part.claim)) x.core.board.passed_over ≡ list_any (same_cell (prefix_or old.0.mine.part.claim)) old.0.mine.note.board.passed_over
-  passed = subst (λ q. is_passed q x.core.board ≡ is_passed q old.0.mine.note.board) (sym (ap prefix_or leaf.1)) (x.fits.knows.passed leaf.0 leaf.1)
-
   module _ (made : ActorRow) (board : BoardState) (given : board ≡ given_up pages a b) (is_made : made ≡ record row { seen = length board.log; claim = None; split = None }) where
     abbrev to : BoardState → Actor → Actor
     to z q = record (saw z q) { claim = None; split = None }
@@ -105,7 +101,7 @@ module _ (settings : Configuration) (old m : Seated) (a : ℕ) (row : ActorRow) 
     give_up_told new gave = told_of (λ v w. GivesUp v w pages) old.0 new.0 table was same
         (board_section settings old m b p.live is f (pass_rows old a row rows told p) (give_up pages) untold
         (λ c v w. list_any (same_cell (prefix_or v.leaf)) c.board.passed_over ≡ v.passed (prefix_or v.leaf) → GivesUp v w pages) (gives_up_seated pages) can (λ z. to z old.0.mine.part) (given_up pages old.0.actor) refl refl refl refl
-        board back made tie told p.told_is new.0 (ap (λ (z : Seated). z.0) gave) passed)
+        board back made tie told p.told_is new.0 (ap (λ (z : Seated). z.0) gave) (passed_noted x.core old.0.actor old.0.mine leaf.0 x.fits leaf.1))
 
     pub give_up_cells : (new : Seated) → new ≡ (giving m.0 made board told (rest m.0.out), rest m.1) → HasCells new.0.mine
     give_up_cells new gave = board_cells settings old m b p.live is f (give_up pages) can (λ z. to z old.0.mine.part) (given_up pages old.0.actor) refl refl board back made tie told new.0 (ap (λ (z : Seated). z.0) gave)

@@ -1,6 +1,7 @@
 -- A pass lets go of its leaf.
 use Rattle.std.proofs.Common.{◌≡◌, ◌≢◌, ℕ, List, length, Bool, refl, sym, ap, ◌∙◌, subst, Option, Some, None, false}
 use Rattle.std.specs.Prelude.{IsSome}
+use Rattle.std.specs.List.{list_any}
 use Rattle.std.proofs.lemmas.Option.{none-some}
 use Rattle.atomic_table.specs.Seated.{TableId}
 use Rattle.atomic_table.specs.Table.{rest}
@@ -21,12 +22,14 @@ use Rattle.mi_latch.proofs.BoardSections.{release_gives}
 use Rattle.mi_latch.proofs.BoardTold.{tells_root}
 use Rattle.mi_solo.specs.declared.rows.ActorRow.{ActorRow}
 use Rattle.mi_solo.proofs.CoreLemmas.{some_of}
+use Rattle.mi_tree.specs.Cells.{same_cell}
 use Rattle.mi_world.specs.Claims.{ReleasesLeaf}
+use Rattle.mi_world.specs.View.{prefix_or}
 use Rattle.mi_hall.specs.Passes.{HasCells, IsPass, PassState, giving, row_actor}
 use Rattle.mi_hall.specs.Places.{untold}
 use Rattle.mi_hall.specs.Seats.{seat_view}
 use Rattle.mi_hall.proofs.BoardPlaces.{releases_leaf_seated}
-use Rattle.mi_hall.proofs.BoardSection.{board_cells, board_section, found}
+use Rattle.mi_hall.proofs.BoardSection.{board_cells, board_section, found, passed_noted}
 use Rattle.mi_hall.proofs.PassLemmas.{pass_rows, row_found, told_of}
 use Rattle.mi_hall.proofs.RowCalls.{row_claim, row_does, split_none}
 
@@ -61,8 +64,9 @@ module _ (settings : Configuration) (old m : Seated) (a : ℕ) (row : ActorRow) 
 
     pub release_told : (new : Seated) → new ≡ (giving m.0 made board told (rest m.0.out), rest m.1) → ReleasesLeaf (seat_view was.sight) (seat_view new.0)
     release_told new gave = told_of (λ v w. ReleasesLeaf v w) old.0 new.0 table was same
-        (board_section settings old m b p.live is f (pass_rows old a row rows told p) release_leaf untold (λ c v w. ReleasesLeaf v w) releases_leaf_seated can to (with_actor without_claim old.0.actor) refl refl refl refl
-        board back made tie told p.told_is new.0 (ap (λ (z : Seated). z.0) gave))
+        (board_section settings old m b p.live is f (pass_rows old a row rows told p) release_leaf untold
+        (λ c v w. list_any (same_cell (prefix_or v.leaf)) c.board.passed_over ≡ v.passed (prefix_or v.leaf) → ReleasesLeaf v w) releases_leaf_seated can to (with_actor without_claim old.0.actor) refl refl refl refl
+        board back made tie told p.told_is new.0 (ap (λ (z : Seated). z.0) gave) (passed_noted x.core old.0.actor old.0.mine claimed.0 x.fits claimed.1))
 
     pub release_cells : (new : Seated) → new ≡ (giving m.0 made board told (rest m.0.out), rest m.1) → HasCells new.0.mine
     release_cells new gave = board_cells settings old m b p.live is f release_leaf can to (with_actor without_claim old.0.actor) refl refl board back made tie told new.0 (ap (λ (z : Seated). z.0) gave)

@@ -74,7 +74,10 @@ pub fn claims_follow()
         → BoardMakes (refuse (held leaf by)) untold (λ c v w. (perm : List ℕ)
         → IsTrue (is_permutation perm) → length perm ≡ length c.board.settings.pivots
         → begins leaf perm ≡ true → v.leaf ≡ None → ClaimsLeaf v w perm (claiming.Held by)) }
-    ensures released { BoardMakes release_leaf untold (λ c v w. ReleasesLeaf v w) }
+    ensures released { BoardMakes release_leaf untold
+        (λ c v w. list_any (same_cell (prefix_or v.leaf)) c.board.passed_over ≡ v.passed
+        (prefix_or v.leaf)
+        → ReleasesLeaf v w) }
 {}
 
 /// A split is published, or memory was wanted, or it is given up.

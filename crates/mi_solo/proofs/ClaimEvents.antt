@@ -213,6 +213,7 @@ releases_leaf = made release_leaf (λ s v w. ReleasesLeaf v w) (λ s k a r there
         update = record { own = refl; shard = refl; records = refl; reserved = refl };
         leaf = refl;
         freed = freed s k a r there without_claim (λ x. refl) can.0 can.1;
+        passed = refl;
         apart = apart_by s t a r q refl refl refl refl refl refl;
         floor = refl;
         fresh = refl;

@@ -78,6 +78,8 @@ pub record ReleasesLeaf (old new : View) : Type 0 where
   pub update : SameUpdate old new
   pub leaf : new.leaf ≡ None
   pub freed : new.holder (prefix_or old.leaf) ≡ None
+  -- whether it is passed over, stays: only a split that is given up or published changes that
+  pub passed : new.passed (prefix_or old.leaf) ≡ old.passed (prefix_or old.leaf)
   pub apart : SameApart old new
   pub floor : new.floor ≡ old.floor
   pub fresh : new.fresh ≡ old.fresh
