@@ -1,14 +1,6 @@
 pub mod HeldLemmas
 pub mod OrderLemmas
 pub mod RunLemmas
-pub mod EntriesLemmas
-pub mod EntriesLemmasRest
-pub mod EntriesLemmasTrim
-pub mod SplitterEvents
-pub mod SplitterWork
-pub mod SplitterSections
-pub mod SplitterTurns
-pub mod SettlingLemmas
 pub mod SeatTurns
 pub mod SeatViews
 pub mod SeatQueries

@@ -1,7 +1,7 @@
 -- The replies of a run whose scripts have all ended, and its log, are legal.
-use Rattle.std.proofs.Common.{◌≡◌, ◌≢◌, ℕ, zero, suc, ◌+◌, ◌<◌, ◌≤◌, List, [], ◌∷◌, ◌++◌, length, true, cond, Bool, Option, Some, None, refl, sym, ap, ◌∙◌, subst, arith, inl, inr}
-use Rattle.std.specs.Prelude.{slice_get, MatchOption, ◌==◌}
-use Rattle.std.specs.List.{AllByRecursion, filter}
+use Rattle.std.proofs.Common.{◌≡◌, ◌≢◌, ℕ, zero, suc, ◌+◌, ◌<◌, ◌≤◌, List, [], ◌∷◌, ◌++◌, length, Option, Some, None, refl, sym, ap, ◌∙◌, subst, arith, inl, inr}
+use Rattle.std.specs.Prelude.{slice_get, MatchOption}
+use Rattle.std.specs.List.{AllByRecursion}
 use Rattle.std.proofs.lemmas.Option.{none-some}
 use Rattle.std.proofs.lemmas.Bool.Decides.{eqb_tells}
 use Rattle.mi_base.specs.declared.records.LogEvent.{LogEvent}
@@ -10,7 +10,7 @@ use Rattle.mi_base.specs.declared.records.Op.TheVariants.{Insert}
 use Rattle.mi_base.specs.declared.records.Reply.{Reply}
 use Rattle.mi_base.specs.declared.records.Reply.TheVariants as reply
 use Rattle.mi_base.specs.Configuration.{Configuration}
-use Rattle.mi_base.specs.History.{Entered, updates_of}
+use Rattle.mi_base.specs.History.{updates_of}
 use Rattle.mi_core.specs.Actors.{made_by}
 use Rattle.mi_core.specs.Kept.{Kept}
 use Rattle.mi_core.specs.State.{State}
@@ -19,8 +19,10 @@ use Rattle.mi_legal.specs.Right.{Right}
 use Rattle.mi_legal.proofs.ReplyLemmas.{full_stays, reach_grows, right_grows}
 use Rattle.mi_tree.specs.Growing.{Grows}
 use Rattle.mi_tree.proofs.GrowingLemmas.{grows_length}
-use Rattle.mi_replay.specs.Turns.{Chained, Operations, Turn}
-use Rattle.mi_replay.proofs.OrderLemmas.{later_after, later_between, later_head, some_turn}
+use Rattle.mi_settle.specs.Turns.{Chained, Turn}
+use Rattle.mi_replay.specs.Operations.{Operations}
+use Rattle.mi_replay.proofs.OrderLemmas.{later_after, later_between, some_turn}
+use Rattle.mi_settle.proofs.LaterLemmas.{later_head}
 
 -- what is right where so many pages are allotted is right where others are, if all are where all were
 allotted_on : (c : Configuration) (log : List LogEvent) (few more k j : ℕ) (o : Op) (y : Reply) → (few ≡ c.pages → more ≡ c.pages) → Right c log few k j o y → Right c log more k j o y
@@ -116,16 +118,3 @@ all_entered log n (os ∷ scripts) (ys ∷ yss) same each = (
 pub all_from : {X : Type 0} (P : X → Type 0) (xs : List X) → ((j : ℕ) (x : X) → slice_get xs j ≡ Some x → P x) → AllByRecursion P xs
 all_from P [] each = tt
 all_from P (x ∷ xs) each = (each 0 x refl, all_from P xs (λ j y at. each (suc j) y at))
-
--- where the last actor has made no update, the others have made all
-pub named_but : (n : ℕ) (es : List Entered) → AllByRecursion (λ e. e.session < n + 1) es → filter (λ (e : Entered). e.session == n) es ≡ [] → AllByRecursion (λ e. e.session < n) es
-named_but n [] h none = tt
-named_but n (e ∷ es) h none =
-    let P : Bool → Type 0 = λ b. cond b (e ∷ filter (λ (x : Entered). x.session == n) es) (filter (λ (x : Entered). x.session == n) es) ≡ [] in
-    elim (eqb_tells e.session n) [
-      | inl is ↦ let wrong : P true = subst P is.0 none in absurd (cons_nil e _ wrong)
-      | inr apart ↦ (omega (arith, h.0, apart.1), named_but n es h.1 (subst P apart.0 none))
-    ]
-  where
-    cons_nil : (x : Entered) (xs : List Entered) → x ∷ xs ≡ [] → ⊥
-    cons_nil x xs e = cc

@@ -1,6 +1,6 @@
 -- What scripts after a schedule leave is played.
 use Rattle.std.proofs.Common.{◌≡◌, ◌≢◌, ℕ, zero, suc, ◌+◌, ◌-◌, ◌<◌, ◌≤◌, List, [], ◌∷◌, ◌++◌, map, length, Bool, true, false, ◌||◌, Option, Some, None, refl, sym, ap, ◌∙◌, subst, arith, append_assoc, eq-eqb}
-use Rattle.std.specs.Prelude.{Result, Ok, Err, slice_get, ◌==◌, ◌&&◌, is_some}
+use Rattle.std.specs.Prelude.{Result, slice_get, ◌==◌, ◌&&◌, is_some}
 use Rattle.std.specs.List.{AllByRecursion, list_any}
 use Rattle.std.proofs.Math.Bool.{and-false, or-false}
 use Rattle.std.proofs.lemmas.Bool.{false≢true, or_parts}
@@ -12,7 +12,7 @@ use Rattle.mi_base.specs.declared.records.Reply.{Reply}
 use Rattle.mi_base.specs.declared.records.ScheduleItem.{ScheduleItem}
 use Rattle.mi_base.specs.declared.refusals.NoMemory.{NoMemory}
 use Rattle.mi_base.specs.Configuration.{Configuration, IsWithinLimits, metric_space}
-use Rattle.mi_base.specs.History.{Entered, entered, live, updates_of}
+use Rattle.mi_base.specs.History.{Entered, entered, updates_of}
 use Rattle.mi_base.specs.Space.{IsMetric}
 use Rattle.mi_core.specs.Actors.{made_by}
 use Rattle.mi_core.specs.Events.{Event}
@@ -31,33 +31,35 @@ use Rattle.mi_legal.specs.Work.{AllTakeSteps}
 use Rattle.mi_solo.specs.States.{actor_in, view_in}
 use Rattle.mi_solo.proofs.HandLemmas.{bare_shown, free_shown, whole_shown}
 use Rattle.mi_tree.specs.declared.outcomes.Outcome.{Outcome}
-use Rattle.mi_tree.specs.Legal.{LegalLog, Settled, cells_of}
+use Rattle.mi_tree.specs.Legal.{LegalLog}
 use Rattle.mi_tree.proofs.ListLemmas.{all_joined}
 use Rattle.mi_world.specs.View.{View}
 use Rattle.mi_replay.specs.declared.seats.Seat.{Seat}
-use Rattle.mi_replay.specs.declared.splitters.SplitterSeat.{SplitterSeat}
-use Rattle.mi_replay.specs.Headlines.{Headline}
-use Rattle.mi_replay.specs.InOrder.{AllBy, BeginsWork, GivesUpRightly, InOrder, IsOutcomeIn, SessionInOrder, rounds}
-use Rattle.mi_replay.specs.Moving.{MakeCalls}
+use Rattle.mi_settle.specs.declared.splitters.SplitterSeat.{SplitterSeat}
+use Rattle.mi_settle.specs.Headlines.{Headline}
+use Rattle.mi_settle.specs.Working.{AllBy, BeginsWork}
+use Rattle.mi_replay.specs.InOrder.{GivesUpRightly, InOrder, SessionInOrder, rounds}
+use Rattle.mi_settle.specs.Moving.{MakeCalls}
 use Rattle.mi_replay.specs.Outcomes.{IsLeft, Played, lacks_page}
 use Rattle.mi_replay.specs.Seats.{SeatAt, UnderWay, is_over}
-use Rattle.mi_replay.specs.Settling.{HoldsNothing, IsAtRest, IsSettled, LeavesSettled, Settles, is_refused}
+use Rattle.mi_settle.specs.Settling.{HoldsNothing, IsAtRest, Settles, is_refused}
 use Rattle.mi_replay.specs.Spending.{IsSpent, replies_of}
-use Rattle.mi_replay.specs.Splitters.{SplitterAt, SplitterWaits, gave_up, is_given_up}
+use Rattle.mi_settle.specs.Splitters.{SplitterAt, SplitterWaits, gave_up, is_given_up}
 use Rattle.mi_replay.specs.Tables.{AllOver, Finished, TableWaits, beginning}
-use Rattle.mi_replay.specs.Turns.{Chained, ComesTo, Turn}
-use Rattle.mi_replay.proofs.EntriesLemmas.{enough, total_is}
-use Rattle.mi_replay.proofs.OrderLemmas.{Later, later_all}
-use Rattle.mi_replay.proofs.OutcomeLegal.{all_entered, all_from, all_right, each_right, named_but, never_falls}
-use Rattle.mi_replay.proofs.RunLemmas.{blocks_chained, chained_on}
+use Rattle.mi_settle.specs.Turns.{Chained, ComesTo, Turn}
+use Rattle.mi_settle.proofs.LaterLemmas.{Later, later_all}
+use Rattle.mi_replay.proofs.OutcomeLegal.{all_entered, all_from, all_right, each_right, never_falls}
+use Rattle.mi_settle.proofs.HeadlineLemmas.{headline_of, named_but, settled_at}
+use Rattle.mi_replay.proofs.RunLemmas.{blocks_chained}
+use Rattle.mi_settle.proofs.TurnLemmas.{chained_on, busy_now, in_turn_on}
 use Rattle.mi_replay.proofs.SeatLemmas.{seat_stays}
-use Rattle.mi_replay.proofs.SeatTurns.{busy_now, in_turn_on}
-use Rattle.mi_replay.proofs.SeatViews.{SameSeen, comes_same}
+use Rattle.mi_settle.proofs.ComingLemmas.{SameSeen, comes_same}
 use Rattle.mi_replay.proofs.SpendingTables.{all_spent}
 use Rattle.mi_replay.proofs.TableBlocks.{by_number}
 use Rattle.mi_replay.proofs.TableLemmas.{apart_by, as_many, claims_stay, is_there, not_by}
 use Rattle.mi_replay.proofs.TableOpening.{over_parts}
 use Rattle.mi_replay.proofs.TableRounds.{actor_of, over_free}
+use Rattle.mi_settle.specs.Outcomes.{IsOutcomeIn}
 
 -- the splitter comes to its turn, and has nothing under way
 abbrev come_turn : ℕ → State → State → Turn
@@ -157,10 +159,6 @@ short_parted false true true = refl
 short_parted false true false = refl
 short_parted false false true = refl
 short_parted false false false = refl
-
-settled_at : (r : Result (Unit {0}) NoMemory) (t : State) → is_refused r ≡ false → LeavesSettled r t → IsSettled t
-settled_at (Ok x) t e h = h
-settled_at (Err x) t e h = absurd (false≢true (sym e))
 
 -- where all scripts have ended, nobody claims anything
 pub holds_none : (s : State) (k : ℕ) → ClaimsNone (view_in s k) → HoldsNothing (actor_in s k)
@@ -305,7 +303,7 @@ module _ (c : Configuration) (scripts : List (List Op)) (schedule : List Schedul
             let z = each j os.0 ys os.1 at_ys in
             never_falls c (beginning c scripts) h.last turns opening_kept chained j 1 0 z.order.to os.0 ys 0 z.order.operations (λ i u later at. omega arith));
       } in
-      subst (λ l. Legal c scripts o.replies l o.allotted) (sym h.log_is) (subst (λ a. Legal c scripts o.replies log a) (sym h.allotted_is) here)
+      subst (λ l. Legal c scripts o.replies l o.allotted) (sym h.core.log_is) (subst (λ a. Legal c scripts o.replies log a) (sym h.core.allotted_is) here)
 
   -- want of memory is told
   short_parts : o.short ≡ false → is_refused h.result ≡ false
@@ -320,15 +318,10 @@ module _ (c : Configuration) (scripts : List (List Op)) (schedule : List Schedul
       (or_right (lacks_page h.last) (x.wanted || is_refused h.result) (splitter.wanted_is ∙ up))
 
   gave_up_full : list_any (gave_up (length scripts) true) turns ≡ true → o.allotted ≡ c.pages
-  gave_up_full up = h.allotted_is ∙ splitter.full up ∙ ap (λ (z : Configuration). z.pages) settings
+  gave_up_full up = h.core.allotted_is ∙ splitter.full up ∙ ap (λ (z : Configuration). z.pages) settings
 
   outcome_in : IsOutcomeIn c o h.last
-  outcome_in = record {
-    log_is = h.log_is;
-    cells_are = h.cells_are ∙ ap (λ (z : Configuration). cells_of z h.last.board.log) settings;
-    entries_are = h.entries_are ∙ total_is h.last.pages;
-    allotted_is = h.allotted_is;
-  }
+  outcome_in = subst (λ (z : Configuration). IsOutcomeIn z o h.last) settings h.core
 
   in_order : InOrder c scripts schedule o
   in_order = record {
@@ -352,24 +345,13 @@ module _ (c : Configuration) (scripts : List (List Op)) (schedule : List Schedul
   pub takes_steps : (first n : ℕ) → IsSpent scripts first n s seats → AllTakeSteps c o.log scripts o.replies first n
   takes_steps first n spent =
       subst (λ ys. AllTakeSteps c o.log scripts ys first n) (sym h.replies_are)
-      (subst (λ log. AllTakeSteps c log scripts (replies_of seats) first n) (sym h.log_is)
+      (subst (λ log. AllTakeSteps c log scripts (replies_of seats) first n) (sym h.core.log_is)
       (all_spent c scripts s seats first n h.last.board.log f.ran.at.settings later.grows f.over spent))
 
   headline : Headline c scripts o
-  headline =
-      let live_in : length (live (updates_of o.log)) ≡ length (live (updates_of h.last.board.log)) = ap (λ l. length (live (updates_of l))) h.log_is in
-      let settled : o.short ≡ false → IsSettled h.last = λ e. settled_at h.result h.last (short_parts e) h.settles.leaves in
-      record {
-        legal = legal;
-        cells_are = outcome_in.cells_are ∙ ap (cells_of c) (sym h.log_is);
-        limit_is = h.limit_is;
-        answered = λ e. (or_parts (has_memory o.replies) (lacks_page h.last || (x.wanted || is_refused h.result)) (sym h.short_is ∙ e)).0;
-        no_fewer = omega (arith, live_in, outcome_in.entries_are, enough h.last later.kept.sound);
-        whole = λ e. outcome_in.entries_are ∙ (settled e).entries ∙ sym live_in;
-        settled = λ e less.
-            let below : h.last.board.allotted < h.last.board.settings.pages = omega (arith, less, h.allotted_is, ap (λ (z : Configuration). z.pages) settings) in
-            subst (Settled c) (sym h.log_is) (subst (λ (z : Configuration). Settled z h.last.board.log) settings ((settled e).settled below));
-      }
+  headline = headline_of c scripts o h.last later.kept settings outcome_in h.limit_is legal
+      (λ e. (or_parts (has_memory o.replies) (lacks_page h.last || (x.wanted || is_refused h.result)) (sym h.short_is ∙ e)).0)
+      (λ e. settled_at h.result h.last (short_parts e) h.settles.leaves)
 
   pub played : Played c scripts schedule o
   unfolding in_order

@@ -26,16 +26,16 @@ use Rattle.mi_world.proofs.ViewLemmas.{others_none}
 use Rattle.mi_replay.specs.declared.seats.Seat.{Seat}
 use Rattle.mi_replay.specs.declared.seats.Taken.{Taken}
 use Rattle.mi_replay.specs.declared.seats.Taken.TheVariants.{More, Held, Ended}
-use Rattle.mi_replay.specs.InOrder.{AllBy, BeginsAtOnce}
-use Rattle.mi_replay.specs.Moving.{MakeCalls, MakesCall, Moves, event_of}
+use Rattle.mi_settle.specs.Working.{AllBy, BeginsAtOnce}
+use Rattle.mi_settle.specs.Moving.{MakeCalls, MakesCall, Moves, event_of}
 use Rattle.mi_replay.specs.Seats.{AsksAt, Going, IsNext, Leaves, Made, SeatAt, SeatReady, SeatWaits, StandsHeld, StopsBy, TurnMade, TurnsMade, WaitsAt, ended_by, is_more, is_over}
-use Rattle.mi_replay.specs.Turns.{Chained, Goes, InTurn, Makes, Turn, busy, busy_after, ended}
+use Rattle.mi_settle.specs.Turns.{Chained, Goes, InTurn, Makes, Turn, busy, busy_after, ended}
 use Rattle.mi_replay.proofs.HeldLemmas.{held_there}
-use Rattle.mi_replay.proofs.RunLemmas.{chained_on}
+use Rattle.mi_settle.proofs.TurnLemmas.{chained_on, busy-append, ended-append, ended_now, in_turn_on}
 use Rattle.mi_replay.proofs.SeatLemmas.{seat_turned, taken_ends, turn_of, under_stays}
 use Rattle.mi_replay.proofs.SeatQueries.{next_asked}
-use Rattle.mi_replay.proofs.SeatTurns.{busy-append, ended-append, ended_now, in_turn_on, operations_on}
-use Rattle.mi_replay.proofs.SeatViews.{SameSeen, comes_same}
+use Rattle.mi_replay.proofs.SeatTurns.{operations_on}
+use Rattle.mi_settle.proofs.ComingLemmas.{SameSeen, comes_same}
 
 some_left_at : (script : List Op) (o : Option Job) (n : ℕ) → (is_none o && (n == length script)) ≡ false → n ≤ length script → AsksAt script n o → n < length script
 some_left_at script None n h few asks = grind (arith, nat_tests)

@@ -29,12 +29,15 @@ use Rattle.mi_world.specs.View.{Others, View}
 use Rattle.mi_replay.specs.declared.seats.Seat.{Seat}
 use Rattle.mi_replay.specs.declared.seats.Taken.{Taken}
 use Rattle.mi_replay.specs.declared.seats.Taken.TheVariants.{More, Held, Ended as Over}
-use Rattle.mi_replay.specs.Moving.{Moves, event_of}
+use Rattle.mi_settle.specs.Moving.{Moves, event_of}
 use Rattle.mi_replay.specs.Seats.{EntersSince, IsNext, IsUnder, Leaves, SeatAt, TurnMade, UnderWay, is_refusing}
-use Rattle.mi_replay.specs.Turns.{EntersBetween, InTurn, IsTurnOf, Operation, Turn, busy, entry}
+use Rattle.mi_replay.specs.Operations.{EntersBetween, IsTurnOf, Operation, entry}
+use Rattle.mi_settle.specs.Turns.{InTurn, Turn, busy}
 use Rattle.mi_replay.proofs.SeatQueries.{Begins, begins, done_unpinned, more_pinned, pinned_stays, since_first}
-use Rattle.mi_replay.proofs.SeatTurns.{NotBy, at_last, busy_now, busy_on, ended_now, ended_on, enters_on, in_turn_on, in_turn_still, match_weaker, not_past, operations_more, operations_on, turn_on}
-use Rattle.mi_replay.proofs.SeatViews.{comes_same, enters_log, same_others}
+use Rattle.mi_settle.proofs.TurnLemmas.{NotBy, busy_now, busy_on, ended_now, ended_on, in_turn_on, in_turn_still}
+use Rattle.mi_replay.proofs.SeatTurns.{at_last, enters_on, match_weaker, not_past, operations_more, operations_on, turn_on}
+use Rattle.mi_settle.proofs.ComingLemmas.{comes_same, same_others}
+use Rattle.mi_replay.proofs.SeatViews.{enters_log}
 
 enters_since_on : (turns more : List Turn) (k j : ℕ) (o : Op) (first n : ℕ) → EntersSince turns k j o first n → EntersSince (turns ++ more) k j o first n
 enters_since_on turns more k j o first n e = record { place = e.place; from = e.from; at = enters_on turns more k j o n e.place e.at }

@@ -1,41 +1,27 @@
 -- What a session's own view tells of its turn, as the states have it.
 use Rattle.std.proofs.Common.{◌≡◌, ℕ, ◌+◌, List, ◌++◌, length, false, Some, refl, sym, ap, ◌∙◌, subst, arith, inl, inr, length-append}
-use Rattle.std.specs.Prelude.{◌⊎◌, map, slice_get, slice_index_or, slice_set}
+use Rattle.std.specs.Prelude.{◌⊎◌, map, slice_get}
 use Rattle.std.proofs.lemmas.Bool.{false≢true}
 use Rattle.std.proofs.lemmas.List.{append_cancel_left}
-use Rattle.std.proofs.lemmas.Option.{get_or_from_slice_get, slice_get_cases, slice_get_within}
 use Rattle.mi_base.specs.declared.records.LogEvent.TheVariants.{Update as Made}
 use Rattle.mi_base.specs.declared.records.Op.{Op}
 use Rattle.mi_base.specs.declared.records.Op.TheVariants.{Insert, Delete, Range, Nearest}
 use Rattle.mi_base.specs.History.{Entered, updates_of}
 use Rattle.mi_base.proofs.HistoryLemmas.{updates_of-append}
-use Rattle.mi_core.proofs.ActorLemmas.{set_there}
-use Rattle.mi_core.specs.Effects.{saw}
-use Rattle.mi_core.specs.Events.{Event, Leads, after, first_actor}
-use Rattle.mi_core.specs.Events.Event.{see, insert, delete, fork, absorb, depart}
+use Rattle.mi_core.specs.Events.{Event, Leads, after}
+use Rattle.mi_core.specs.Events.Event.{insert, delete, fork, absorb, depart}
 use Rattle.mi_core.specs.State.{State}
 use Rattle.mi_entries.specs.Actors.{Actor}
 use Rattle.mi_job.specs.declared.job.Job.{Job}
 use Rattle.mi_job.specs.Jobs.{Enters, asked, entry_of, is_query, op_number}
-use Rattle.mi_solo.specs.Solos.{Calls, IsCall, MayTurn}
-use Rattle.mi_solo.specs.States.{Does, actor_in, view_in}
-use Rattle.mi_solo.specs.Viewing.{shown_to}
-use Rattle.mi_world.specs.View.{Others, View}
-use Rattle.mi_world.proofs.ViewLemmas.{others_none}
-use Rattle.mi_replay.specs.Moving.{Moves}
-use Rattle.mi_replay.specs.Turns.{ComesTo, entry}
+use Rattle.mi_solo.specs.Solos.{Calls, IsCall}
+use Rattle.mi_solo.specs.States.{actor_in, view_in}
+use Rattle.mi_world.specs.View.{View}
+use Rattle.mi_settle.specs.Moving.{Moves}
+use Rattle.mi_settle.proofs.ComingLemmas.{now, was}
+use Rattle.mi_replay.specs.Operations.{entry}
 
 module _ (s : State) (k : ℕ) (r : Actor) (there : slice_get s.actors k ≡ Some r) where
-  -- the record that an event leaves its actor
-  now : (x : Actor) → slice_index_or (slice_set s.actors k x) k first_actor ≡ x
-  now x = get_or_from_slice_get (slice_set s.actors k x) k x first_actor (set_there s.actors k x r there)
-
-  was : actor_in s k ≡ r
-  was = get_or_from_slice_get s.actors k r first_actor there
-
-  saw_same : view_in (after s k r see) k ≡ view_in s k
-  saw_same = ap (shown_to (after s k r see) k) (now (saw s.board r)) ∙ sym (ap (shown_to s k) was)
-
   -- what an event adds to its actor's updates, if any, it adds to the log
   record Adds (t : State) : Type 0 where
     more : List Entered
@@ -43,44 +29,12 @@ module _ (s : State) (k : ℕ) (r : Actor) (there : slice_get s.actors k ≡ Som
     log : t.board.log ≡ s.board.log ++ map (λ e. Made e.session e.op e.update) more
 
   adds : (e : Event) → IsCall e → ((actor_in (after s k r e) k).own ≡ r.own) ⊎ Adds (after s k r e)
-  adds (insert op id page node kept e) call = inr (record { more = _; own = ap (λ (x : Actor). x.own) (now _); log = refl })
-  adds (delete op id page node kept key) call = inr (record { more = _; own = ap (λ (x : Actor). x.own) (now _); log = refl })
+  adds (insert op id page node kept e) call = inr (record { more = _; own = ap (λ (x : Actor). x.own) (now s k r there _); log = refl })
+  adds (delete op id page node kept key) call = inr (record { more = _; own = ap (λ (x : Actor). x.own) (now s k r there _); log = refl })
   adds fork call = absurd call
   adds (absorb b q) call = absurd call
   adds depart call = absurd call
-  adds e call = inl (ap (λ (x : Actor). x.own) (now _))
-
--- coming to a turn changes nothing that is seen
-pub record SameSeen (s : State) (k : ℕ) (m : State) : Type 0 where
-  pub board : m.board ≡ s.board
-  pub view : view_in m k ≡ view_in s k
-
-pub comes_same : (s : State) (k : ℕ) (m : State) → ComesTo s k m → SameSeen s k m
-comes_same s k m (inl e) = subst (SameSeen s k) (sym e) (record { board = refl; view = refl })
-comes_same s k m (inr e) =
-    let l : Leads s k m = e.0 in
-    let is : m ≡ after s k l.actor see = subst (λ (x : Event). m ≡ after s k l.actor x) e.1 l.is in
-    subst (SameSeen s k) (sym is) (record { board = refl; view = saw_same s k l.actor l.there })
-
-pub same_others : (s : State) (k : ℕ) (m : State) → SameSeen s k m → Others (view_in s k) (view_in m k)
-same_others s k m h = subst (Others (view_in s k)) (sym h.view) (others_none (view_in s k))
-
--- it comes to its turn
-module _ (s : State) (k : ℕ) (m : State) (may : MayTurn s k) (does : Does s k see m) where
-  is_there : slice_get s.actors k ≡ Some (actor_in s k)
-  is_there = elim (slice_get_cases s.actors k).1 [
-    | inl c ↦ c.2 ∙ ap Some (sym (get_or_from_slice_get s.actors k c.0 first_actor c.2))
-    | inr c ↦ absurd (omega (arith, c.0, may.made))
-  ]
-
-  pub comes : ComesTo s k m
-  comes = inr (record { actor = actor_in s k; there = is_there; going = may.going; event = see; can = does.can; is = does.is }, refl)
-
-  pub may_still : MayTurn m k
-  may_still = subst (λ (x : State). MayTurn x k) (sym does.is) (record {
-    made = slice_get_within (slice_set s.actors k (saw s.board (actor_in s k))) k (saw s.board (actor_in s k)) (set_there s.actors k (saw s.board (actor_in s k)) (actor_in s k) is_there);
-    going = ap (λ (x : Actor). x.ended) (now s k (actor_in s k) is_there (saw s.board (actor_in s k))) ∙ may.going;
-  })
+  adds e call = inl (ap (λ (x : Actor). x.own) (now s k r there _))
 
 -- the update that a section enters is the section's event
 pub record EntersLog (k : ℕ) (old : Job) (s t : State) : Type 0 where

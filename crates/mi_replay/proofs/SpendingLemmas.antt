@@ -32,7 +32,7 @@ use Rattle.mi_replay.specs.declared.seats.Taken.{Taken}
 use Rattle.mi_replay.specs.Seats.{AsksAt, IsNext, Leaves, WaitsAt}
 use Rattle.mi_replay.specs.Spending.{SeatSpends, least_by, least_under, measured_from, most_by, most_under}
 use Rattle.mi_replay.proofs.SeatQueries.{next_asked}
-use Rattle.mi_replay.proofs.SeatViews.{SameSeen}
+use Rattle.mi_settle.proofs.ComingLemmas.{SameSeen}
 
 -- the replies of a script, and one more
 pub least_none : (c : Configuration) (os : List Op) → least_sum c os [] ≡ 0

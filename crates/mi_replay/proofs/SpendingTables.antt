@@ -15,14 +15,14 @@ use Rattle.mi_tree.specs.Growing.{Grows}
 use Rattle.mi_tree.proofs.GrowingLemmas.{grows_on}
 use Rattle.mi_world.specs.View.{Others}
 use Rattle.mi_replay.specs.declared.seats.Seat.{Seat}
-use Rattle.mi_replay.specs.declared.splitters.SplitterSeat.{SplitterSeat}
-use Rattle.mi_replay.specs.InOrder.{AllBy}
-use Rattle.mi_replay.specs.Moving.{MakeCalls}
+use Rattle.mi_settle.specs.declared.splitters.SplitterSeat.{SplitterSeat}
+use Rattle.mi_settle.specs.Working.{AllBy}
+use Rattle.mi_settle.specs.Moving.{MakeCalls}
 use Rattle.mi_replay.specs.Spending.{IsSpent, SeatSpends, least_by, least_under, most_by, most_under, replies_of, sum_of}
 use Rattle.mi_replay.specs.Seats.{OperationMade, SeatAt, TurnsMade}
 use Rattle.mi_replay.specs.Tables.{AllOver, Ran, TableWaits}
-use Rattle.mi_replay.specs.Turns.{Chained, Turn}
-use Rattle.mi_replay.proofs.OrderLemmas.{later_all}
+use Rattle.mi_settle.specs.Turns.{Chained, Turn}
+use Rattle.mi_settle.proofs.LaterLemmas.{later_all}
 use Rattle.mi_replay.proofs.SpendingLemmas.{least_none, least_stays, most_stays, or_both}
 use Rattle.mi_replay.proofs.TableBlocks.{by_number, one_of}
 use Rattle.mi_replay.proofs.TableLemmas.{apart_by}

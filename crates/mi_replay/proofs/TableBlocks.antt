@@ -20,13 +20,13 @@ use Rattle.mi_job.specs.Jobs.{asked}
 use Rattle.mi_replay.specs.declared.seats.Seat.{Seat}
 use Rattle.mi_replay.specs.declared.seats.Taken.{Taken}
 use Rattle.mi_replay.specs.declared.seats.Taken.TheVariants.{More, Held, Ended}
-use Rattle.mi_replay.specs.declared.splitters.SplitterSeat.{SplitterSeat}
+use Rattle.mi_settle.specs.declared.splitters.SplitterSeat.{SplitterSeat}
 use Rattle.mi_replay.specs.InOrder.{Blocks, IsBlock, SessionOperation}
 use Rattle.mi_replay.specs.Seats.{Going, Made, OperationMade, SeatAt, SeatWaits, TurnsMade, UnderWay, is_over}
-use Rattle.mi_replay.specs.Splitters.{SplitterAt, SplitterGoing, SplitterMade, SplitterTurnsMade}
+use Rattle.mi_settle.specs.Splitters.{SplitterAt, SplitterGoing, SplitterMade, SplitterTurnsMade}
 use Rattle.mi_replay.specs.Tables.{ItemMade, TableWaits, beginning}
-use Rattle.mi_replay.specs.Turns.{Chained, Turn}
-use Rattle.mi_replay.proofs.OrderLemmas.{Later, later_all}
+use Rattle.mi_settle.specs.Turns.{Chained, Turn}
+use Rattle.mi_settle.proofs.LaterLemmas.{Later, later_all}
 use Rattle.mi_replay.proofs.SeatLemmas.{seat_stays}
 use Rattle.mi_replay.proofs.TableLemmas.{Apart, apart_by, as_many, not_by, splitter_at_on, splitter_waits_on, waits_on}
 

@@ -34,14 +34,14 @@ use Rattle.mi_tree.proofs.ListLemmas.{all_joined, all_weaker}
 use Rattle.mi_world.specs.View.{Others, View}
 use Rattle.mi_world.proofs.ViewLemmas.{others_none, others_on}
 use Rattle.mi_replay.specs.declared.seats.Seat.{Seat}
-use Rattle.mi_replay.specs.declared.splitters.SplitterSeat.{SplitterSeat}
-use Rattle.mi_replay.specs.InOrder.{AllBy, BeginsWork}
-use Rattle.mi_replay.specs.Moving.{MakeCalls, MakesCall}
+use Rattle.mi_settle.specs.declared.splitters.SplitterSeat.{SplitterSeat}
+use Rattle.mi_settle.specs.Working.{AllBy, BeginsWork}
+use Rattle.mi_settle.specs.Moving.{MakeCalls, MakesCall}
 use Rattle.mi_replay.specs.Seats.{SeatWaits, WaitsAt}
-use Rattle.mi_replay.specs.Splitters.{SplitterAt, SplitterWaits, gave_up, is_given_up}
-use Rattle.mi_replay.specs.Turns.{Chained, ComesTo, Goes, LeadsBy, Makes, Turn}
-use Rattle.mi_replay.proofs.OrderLemmas.{Later, later_come, later_head}
-use Rattle.mi_replay.proofs.SeatTurns.{NotBy, busy_on, in_turn_still}
+use Rattle.mi_settle.specs.Splitters.{SplitterAt, SplitterWaits, gave_up, is_given_up}
+use Rattle.mi_settle.specs.Turns.{Chained, ComesTo, Goes, LeadsBy, Makes, Turn}
+use Rattle.mi_settle.proofs.LaterLemmas.{Later, later_come, later_head}
+use Rattle.mi_settle.proofs.TurnLemmas.{NotBy, busy_on, in_turn_still}
 
 call_spares : (e : Event) (j : ℕ) → IsCall e → Spares e j
 call_spares (absorb b t) j h = absurd h

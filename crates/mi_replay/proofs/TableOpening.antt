@@ -1,5 +1,5 @@
 -- Where all stand before anything was done, and how items follow one another.
-use Rattle.std.proofs.Common.{◌≡◌, ℕ, zero, suc, ◌+◌, ◌<◌, ◌≤◌, List, [], ◌∷◌, ◌++◌, length, false, true, Option, Some, None, refl, sym, ap, ◌∙◌, subst, arith, append-nil, append_assoc, inl, inr}
+use Rattle.std.proofs.Common.{◌≡◌, ℕ, suc, ◌+◌, ◌<◌, ◌≤◌, List, [], ◌∷◌, ◌++◌, length, false, true, Option, Some, None, refl, sym, ap, ◌∙◌, subst, arith, append-nil, append_assoc, inl, inr}
 use Rattle.std.specs.Prelude.{◌==◌, ◌&&◌, is_none, is_some, slice_get}
 use Rattle.std.specs.List.{AllByRecursion}
 use Rattle.std.proofs.lemmas.Bool.{eqb-true, false≢true}
@@ -19,20 +19,16 @@ use Rattle.mi_job.specs.Claims.{ClaimsNone}
 use Rattle.mi_legal.specs.Legal.{accepted_in}
 use Rattle.mi_solo.specs.Solos.{MayTurn}
 use Rattle.mi_solo.specs.States.{actor_in, view_in}
+use Rattle.mi_tree.proofs.ListLemmas.{all_get}
 use Rattle.mi_solo.specs.Viewing.{shown_to}
 use Rattle.mi_replay.specs.declared.seats.Seat.{Seat}
-use Rattle.mi_replay.specs.declared.splitters.SplitterSeat.{SplitterSeat}
+use Rattle.mi_settle.specs.declared.splitters.SplitterSeat.{SplitterSeat}
 use Rattle.mi_replay.specs.InOrder.{round, rounds}
 use Rattle.mi_replay.specs.Seats.{AsksAt, IsEmpty, SeatAt, SeatWaits, UnderWay, WaitsAt, is_over}
-use Rattle.mi_replay.specs.Splitters.{SplitterAt, SplitterWaits}
+use Rattle.mi_settle.specs.Splitters.{SplitterAt, SplitterWaits}
 use Rattle.mi_replay.specs.Tables.{AllOver, ItemsMade, Ran, TableWaits, beginning}
-use Rattle.mi_replay.specs.Turns.{Operations}
+use Rattle.mi_replay.specs.Operations.{Operations}
 use Rattle.mi_replay.proofs.TableBlocks.{by_number, one_of}
-
-pub all_at : {X : Type 0} (P : X → Type 0) (xs : List X) (i : ℕ) (x : X) → AllByRecursion P xs → slice_get xs i ≡ Some x → P x
-all_at P [] i x h at = absurd (none-some x at)
-all_at P (y ∷ ys) zero x h at = subst P (same_Some y x at) h.0
-all_at P (y ∷ ys) (suc i) x h at = all_at P ys i x h.1 at
 
 -- nothing was replied to the first scripts, and there is room for the replies
 pub record AreEmpty (scripts : List (List Op)) (seats : List Seat) : Type 0 where
@@ -137,7 +133,7 @@ module _ (c : Configuration) (scripts : List (List Op)) where
           kept = subst Kept is kept;
           count = same;
           actors = count;
-          each = λ j os a at_os at_a. seat_waits_first j os a (lt j os at_os) (all_at (IsScriptOver (metric_space c)) scripts j os fits at_os) (empty.each j os a at_os at_a);
+          each = λ j os a at_os at_a. seat_waits_first j os a (lt j os at_os) (all_get (IsScriptOver (metric_space c)) scripts j os fits at_os) (empty.each j os a at_os at_a);
           splitter = splitter_waits_first;
         };
       })

@@ -24,13 +24,13 @@ use Rattle.mi_world.specs.View.{IsOther}
 use Rattle.mi_replay.specs.declared.seats.Seat.{Seat}
 use Rattle.mi_replay.specs.declared.seats.Taken.{Taken}
 use Rattle.mi_replay.specs.declared.seats.Taken.TheVariants.{More, Held, Ended}
-use Rattle.mi_replay.specs.declared.splitters.SplitterSeat.{SplitterSeat}
+use Rattle.mi_settle.specs.declared.splitters.SplitterSeat.{SplitterSeat}
 use Rattle.mi_replay.specs.Rounds.{Eased, Eases, NoClaim, NoLeaf, Relieved, Relieves, Rested, has_leaf, has_shard, operations_left, phase, phase_at, rounds_left}
 use Rattle.mi_replay.specs.Seats.{Going, OperationMade, SeatWaits, WaitsAt, is_over}
-use Rattle.mi_replay.specs.Splitters.{SplitterGoing}
+use Rattle.mi_settle.specs.Splitters.{SplitterGoing}
 use Rattle.mi_replay.specs.Tables.{NotOver, TableWaits}
 use Rattle.mi_replay.proofs.HeldLemmas.{leaf_held, shard_held}
-use Rattle.mi_replay.proofs.OrderLemmas.{later_all}
+use Rattle.mi_settle.proofs.LaterLemmas.{later_all}
 use Rattle.mi_replay.proofs.TableBlocks.{by_number, one_of}
 use Rattle.mi_replay.proofs.TableLemmas.{is_there, same_else}
 

@@ -1,5 +1,5 @@
 -- The schedule decides the order: a run of the core, cut into one block for each item of the schedule and of the finishing rounds.
-use Rattle.std.specs.Prelude.{◌≡◌, ◌<◌, ◌+◌, ◌-◌, ◌⊎◌, ◌++◌, [], ◌∷◌, ℕ, ℤ, zero, suc, true, false, List, Option, Some, None, length, map, sum, slice_get}
+use Rattle.std.specs.Prelude.{◌≡◌, ◌<◌, ◌+◌, ◌-◌, ◌⊎◌, ◌++◌, [], ◌∷◌, ℕ, ℤ, zero, suc, true, false, List, Option, Some, length, slice_get}
 use Rattle.std.specs.List.{AllByRecursion}
 use Rattle.mi_base.specs.declared.records.Actor.{Actor}
 use Rattle.mi_base.specs.declared.records.Actor.TheVariants.{Session, Splitter}
@@ -11,34 +11,19 @@ use Rattle.mi_base.specs.declared.records.Take.{Take}
 use Rattle.mi_base.specs.declared.records.Take.TheVariants as take
 use Rattle.mi_base.specs.Configuration.{Configuration}
 use Rattle.mi_base.specs.Permutations.{begins}
-use Rattle.mi_board.specs.Boards.{BoardState, next_split, next_sweep}
 use Rattle.mi_core.specs.Events.{Event, opened}
-use Rattle.mi_core.specs.Events.Event.{give_up, publish, sweep, take_split, take_sweep}
+use Rattle.mi_core.specs.Events.Event.{give_up}
 use Rattle.mi_core.specs.State.{State}
 use Rattle.mi_entries.specs.Records.{home, shard_at}
-use Rattle.mi_page.specs.Nodes.{Node}
-use Rattle.mi_solo.specs.States.{actor_in}
 use Rattle.mi_solo.specs.Viewing.{holder_from}
 use Rattle.mi_tree.specs.declared.outcomes.Outcome.{Outcome}
 use Rattle.mi_tree.specs.Births.{Born, living}
-use Rattle.mi_tree.specs.Legal.{cells_of}
 use Rattle.mi_tree.specs.Placing.{grid_under}
 use Rattle.mi_world.specs.View.{IsOther}
-use Rattle.mi_replay.specs.Turns.{Turn, Chained, InTurn, Operations, busy, ended}
-
--- each turn is this actor's
-abbrev pub AllBy : ℕ → List Turn → Type 0
-AllBy a turns = AllByRecursion (λ u. u.actor ≡ a) turns
-
--- a list whose first turn begins an operation
-abbrev pub BeginsAtOnce : List Turn → Type 0
-BeginsAtOnce [] = ⊥
-BeginsAtOnce (u ∷ us) = u.begins ≡ true
-
--- a splitter has nothing to do: no retired leaf may be swept, and no leaf is to be split that is free and not passed over
-pub record IsIdle (b : BoardState) : Type 0 where
-  pub no_sweep : next_sweep b ≡ None
-  pub no_split : next_split b ≡ None
+use Rattle.mi_settle.specs.Turns.{Turn, Chained, InTurn, busy, ended}
+use Rattle.mi_replay.specs.Operations.{Operations}
+use Rattle.mi_settle.specs.Outcomes.{IsOutcomeIn}
+use Rattle.mi_settle.specs.Working.{AllBy, BeginsAtOnce, IsIdle, LastEndsWork, BeginsWork}
 
 -- another actor holds the shard of the update's identifier
 abbrev pub ShardIsHeld : State → ℕ → Op → Type 0
@@ -74,18 +59,6 @@ pub record SessionTurns (k count : ℕ) (script : List Op) (earlier block : List
 abbrev pub SessionOperation : ℕ → List Op → List Turn → List Turn → State → Type 0
 SessionOperation k script earlier block t =
     (ended k block ≡ 1) ⊎ ((busy k earlier ≡ false) × (ended k earlier ≡ length script)) ⊎ IsHeldUp script k (earlier ++ block) t
-
--- the turn ends an operation of a splitter: it publishes a split, gives one up, or is the last section of a sweep
-abbrev pub EndsWork : Option Event → ℕ → State → Type 0
-EndsWork (Some publish) a t = Unit {0}
-EndsWork (Some (give_up pages)) a t = Unit {0}
-EndsWork (Some (sweep page node)) a t = (actor_in t a).sweep ≡ None
-EndsWork event a t = ⊥
-
-abbrev pub LastEndsWork : List Turn → Type 0
-LastEndsWork [] = ⊥
-LastEndsWork (u ∷ []) = EndsWork u.event u.actor u.after
-LastEndsWork (u ∷ v ∷ us) = LastEndsWork (v ∷ us)
 
 -- `splitter,COUNT`: so many turns; the first begins an operation where none is under way and there is something to do
 pub record SplitterTurns (a count : ℕ) (earlier block : List Turn) (s : State) : Type 0 where
@@ -133,15 +106,6 @@ pub record SessionInOrder (c : Configuration) (turns : List Turn) (k : ℕ) (scr
   pub over : busy k turns ≡ false
   pub ended_are : ended k turns ≡ length replies
 
--- an operation of a splitter begins with the work that it was given
-abbrev pub GivesWork : Option Event → Type 0
-GivesWork (Some (take_sweep leaf)) = Unit {0}
-GivesWork (Some (take_split leaf)) = Unit {0}
-GivesWork event = ⊥
-
-abbrev pub BeginsWork : ℕ → Turn → Type 0
-BeginsWork a u = u.actor ≡ a → u.begins ≡ true → GivesWork u.event
-
 -- a splitter's operations begin and end one at a time, each with work to do
 pub record SplitterInOrder (a : ℕ) (turns : List Turn) : Type 0 where
   pub in_turn : InTurn a false turns
@@ -152,21 +116,6 @@ abbrev pub GivesUpRightly : Configuration → Outcome → Option Event → Type 
 GivesUpRightly c o (Some (give_up true)) = o.allotted ≡ c.pages
 GivesUpRightly c o (Some (give_up false)) = o.short ≡ true
 GivesUpRightly c o event = Unit {0}
-
--- how many entries the leaf pages have
-abbrev pub entries_at : Option Node → ℕ
-entries_at None = 0
-entries_at (Some n) = length n.entries
-
-abbrev pub entry_count : State → ℕ
-entry_count s = sum (map entries_at s.pages)
-
--- an outcome is what a state has
-pub record IsOutcomeIn (c : Configuration) (o : Outcome) (s : State) : Type 0 where
-  pub log_is : o.log ≡ s.board.log
-  pub cells_are : o.cells ≡ cells_of c s.board.log
-  pub entries_are : o.entries ≡ entry_count s
-  pub allotted_is : o.allotted ≡ s.board.allotted
 
 -- a run from the opening to the outcome
 pub record InOrder (c : Configuration) (scripts : List (List Op)) (schedule : List ScheduleItem) (o : Outcome) : Type 0 where

@@ -1,12 +1,7 @@
-pub mod Entries
-pub mod Headlines
 pub mod InOrder
-pub mod Moving
+pub mod Operations
 pub mod Outcomes
 pub mod Rounds
 pub mod Seats
-pub mod Settling
 pub mod Spending
-pub mod Splitters
 pub mod Tables
-pub mod Turns

@@ -3,24 +3,21 @@ use Rattle.std.specs.Prelude.{◌≡◌, ◌||◌, ◌++◌, ℕ, Bool, false, L
 use Rattle.std.specs.List.{list_any}
 use Rattle.mi_base.specs.declared.refusals.NoMemory.{NoMemory}
 use Rattle.mi_base.specs.declared.records.Op.{Op}
-use Rattle.mi_base.specs.declared.records.Reply.{Reply}
 use Rattle.mi_base.specs.declared.records.ScheduleItem.{ScheduleItem}
 use Rattle.mi_base.specs.Configuration.{Configuration}
-use Rattle.mi_core.specs.Counted.{total}
 use Rattle.mi_core.specs.State.{State}
 use Rattle.mi_legal.specs.Want.{has_memory}
 use Rattle.mi_replay.specs.declared.seats.Seat.{Seat}
-use Rattle.mi_replay.specs.declared.splitters.SplitterSeat.{SplitterSeat}
+use Rattle.mi_settle.specs.declared.splitters.SplitterSeat.{SplitterSeat}
 use Rattle.mi_replay.specs.declared.tables.Table.{Table}
-use Rattle.mi_replay.specs.Headlines.{Headline}
+use Rattle.mi_settle.specs.Headlines.{Headline}
 use Rattle.mi_replay.specs.InOrder.{InOrder}
-use Rattle.mi_replay.specs.Settling.{Settles, is_refused}
-use Rattle.mi_replay.specs.Splitters.{gave_up}
-use Rattle.mi_replay.specs.Turns.{ComesTo}
-use Rattle.mi_solo.specs.Solos.{entries_on}
+use Rattle.mi_settle.specs.Settling.{Settles, is_refused}
+use Rattle.mi_settle.specs.Splitters.{gave_up}
+use Rattle.mi_settle.specs.Turns.{ComesTo}
 use Rattle.mi_solo.specs.States.{actor_in}
 use Rattle.mi_tree.specs.declared.outcomes.Outcome.{Outcome}
-use Rattle.mi_tree.specs.Legal.{cells_of}
+use Rattle.mi_settle.specs.Outcomes.{IsOutcomeIn}
 
 -- memory was wanted for a page of some actor
 abbrev pub lacks_page : State → Bool
@@ -53,10 +50,7 @@ pub record IsLeft (n pages : ℕ) (s : State) (seats : List Seat) (x : SplitterS
   pub result : Result (Unit {0}) NoMemory
   pub last : State
   pub settles : Settles n before result last
-  pub log_is : o.log ≡ last.board.log
-  pub cells_are : o.cells ≡ cells_of last.board.settings last.board.log
-  pub entries_are : o.entries ≡ total entries_on last.pages
-  pub allotted_is : o.allotted ≡ last.board.allotted
+  pub core : IsOutcomeIn last.board.settings o last
   pub limit_is : o.limit ≡ pages
   pub replies_are : o.replies ≡ map (λ a. a.replies.items) seats
   pub short_is : o.short ≡ (has_memory o.replies || (lacks_page last || (x.wanted || is_refused result)))
@@ -64,13 +58,3 @@ pub record IsLeft (n pages : ℕ) (s : State) (seats : List Seat) (x : SplitterS
 -- the same of a table
 abbrev pub IsLeftBy : ℕ → ℕ → Table → Outcome → Type 0
 IsLeftBy n pages t o = IsLeft n pages t.solo.state t.seats.items t.splitter o
-
--- an outcome that tells of a core and of these replies; it is short where an answer is missing, or where more was wanted
-pub record IsOutcomeOf (s : State) (replies : List (List Reply)) (more : Bool) (pages : ℕ) (o : Outcome) : Type 0 where
-  pub log_is : o.log ≡ s.board.log
-  pub cells_are : o.cells ≡ cells_of s.board.settings s.board.log
-  pub entries_are : o.entries ≡ total entries_on s.pages
-  pub allotted_is : o.allotted ≡ s.board.allotted
-  pub limit_is : o.limit ≡ pages
-  pub replies_are : o.replies ≡ replies
-  pub short_is : o.short ≡ (has_memory replies || more)

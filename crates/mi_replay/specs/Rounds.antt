@@ -5,7 +5,7 @@ use Rattle.mi_base.specs.declared.records.Op.{Op}
 use Rattle.mi_core.specs.State.{State}
 use Rattle.mi_entries.specs.Actors.{Actor}
 use Rattle.mi_replay.specs.declared.seats.Seat.{Seat}
-use Rattle.mi_replay.specs.declared.splitters.SplitterSeat.{SplitterSeat}
+use Rattle.mi_settle.specs.declared.splitters.SplitterSeat.{SplitterSeat}
 use Rattle.mi_replay.specs.declared.tables.Table.{Table}
 use Rattle.mi_replay.specs.Seats.{is_over}
 use Rattle.mi_replay.specs.Tables.{NotOver}

@@ -22,9 +22,11 @@ use Rattle.mi_world.specs.View.{View}
 use Rattle.mi_replay.specs.declared.seats.Seat.{Seat}
 use Rattle.mi_replay.specs.declared.seats.Taken.{Taken}
 use Rattle.mi_replay.specs.declared.seats.Taken.TheVariants.{More, Held, Ended}
-use Rattle.mi_replay.specs.InOrder.{AllBy, BeginsAtOnce, LeafIsHeld, ShardIsHeld}
-use Rattle.mi_replay.specs.Moving.{MakeCalls, Moves}
-use Rattle.mi_replay.specs.Turns.{Turn, Chained, ComesTo, EntersAt, InTurn, IsTurnOf, Operations, busy, ended}
+use Rattle.mi_settle.specs.Working.{AllBy, BeginsAtOnce}
+use Rattle.mi_replay.specs.InOrder.{LeafIsHeld, ShardIsHeld}
+use Rattle.mi_settle.specs.Moving.{MakeCalls, Moves}
+use Rattle.mi_settle.specs.Turns.{Turn, Chained, ComesTo, InTurn, busy, ended}
+use Rattle.mi_replay.specs.Operations.{EntersAt, IsTurnOf, Operations}
 
 -- nothing is under way and nothing is left
 abbrev pub is_over : List Op → Seat → Bool

@@ -11,12 +11,12 @@ use Rattle.mi_core.specs.Events.{opened}
 use Rattle.mi_core.specs.Kept.{Kept}
 use Rattle.mi_core.specs.State.{State}
 use Rattle.mi_replay.specs.declared.seats.Seat.{Seat}
-use Rattle.mi_replay.specs.declared.splitters.SplitterSeat.{SplitterSeat}
+use Rattle.mi_settle.specs.declared.splitters.SplitterSeat.{SplitterSeat}
 use Rattle.mi_replay.specs.declared.tables.Table.{Table}
 use Rattle.mi_replay.specs.InOrder.{Blocks, rounds}
 use Rattle.mi_replay.specs.Seats.{SeatAt, SeatWaits, is_over}
-use Rattle.mi_replay.specs.Splitters.{SplitterAt, SplitterWaits}
-use Rattle.mi_replay.specs.Turns.{Turn}
+use Rattle.mi_settle.specs.Splitters.{SplitterAt, SplitterWaits}
+use Rattle.mi_settle.specs.Turns.{Turn}
 
 -- each may make its next turn
 pub record TableWaits (scripts : List (List Op)) (s : State) (seats : List Seat) (x : SplitterSeat) : Type 0 where

@@ -15,7 +15,8 @@ ghost use Rattle.mi_legal.specs.Legal.{events_to, reach};
 ghost use Rattle.mi_tree.specs.declared.outcomes.Outcome.{Outcome};
 ghost use Rattle.mi_update.specs.Stepping.{number_told};
 ghost use Rattle.mi_replay.specs.InOrder.{InOrder, LeafIsHeld, ShardIsHeld};
-ghost use Rattle.mi_replay.specs.Turns.{Chained, Operation, Turn};
+ghost use Rattle.mi_settle.specs.Turns.{Chained, Turn};
+ghost use Rattle.mi_replay.specs.Operations.{Operation};
 
 /// A run in order is one run from the opened core to the state that has the outcome's log.
 pub fn runs_in_order_are_runs()

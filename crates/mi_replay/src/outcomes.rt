@@ -1,28 +1,24 @@
 //! What scripts after a schedule leave.
 ghost use Rattle.std.specs.Prelude.{◌≡◌, ◌<◌, ◌≤◌, ◌+◌, ◌||◌, ℕ, IfOk, false, length, map};
-ghost use Rattle.std.specs.List.{AllByRecursion, list_any};
+ghost use Rattle.std.specs.List.{AllByRecursion};
 ghost use Rattle.mi_base.specs.declared.limits.TheConstants.{MAX_SESSIONS};
 ghost use Rattle.mi_base.specs.Configuration.{metric_space};
 ghost use Rattle.mi_base.specs.Scripts.{IsScriptOver};
-ghost use Rattle.mi_legal.specs.Want.{has_memory, is_memory};
 ghost use Rattle.mi_legal.specs.Work.{AllTakeSteps};
-ghost use Rattle.mi_replay.specs.Outcomes.{IsLeftBy, IsOutcomeOf, Played, SameButSeen, lacks_page};
-ghost use Rattle.mi_replay.specs.Settling.{is_refused};
+ghost use Rattle.mi_replay.specs.Outcomes.{IsLeftBy, Played, SameButSeen, lacks_page};
 ghost use Rattle.mi_replay.specs.Tables.{IsItemOver, IsOver, Waits};
+ghost use Rattle.mi_settle.specs.Settling.{is_refused};
 ghost use Rattle.mi_solo.specs.States.{actor_in};
 
 use crate::replaying::finished;
 use crate::seats::Seat;
-use crate::settling::settle;
-use crate::splitters::SplitterSeat;
 use crate::tables::Table;
-use mi_base::{
-    Log, LogEvent, NoMemory, Replies, Reply, Schedule, Script, Settings, Steps, Transcript, Update,
-};
+use mi_base::{NoMemory, Schedule, Script, Settings, Steps, Transcript};
 use mi_metric::Metric;
 use mi_perm::Pivots;
+use mi_settle::{SplitterSeat, outcome_of, settle};
 use mi_solo::Solo;
-use mi_tree::{Catalog, Leaves, Outcome};
+use mi_tree::Outcome;
 use mi_world::World;
 use std::alloc::Global;
 use std::marker::Brand;
@@ -120,30 +116,6 @@ fn outcome(alloc: Global, table: Table, scripts: &[Script], pages: u32) -> Resul
     Ok(outcome)
 }
 
-/// What a core tells beside these replies. It is short where an answer is missing, or where more was
-/// wanted.
-pub fn outcome_of(
-    alloc: Global,
-    solo: &Solo,
-    replies: Transcript,
-    more: bool,
-    pages: u32,
-) -> Result<Outcome, NoMemory>
-    ensures { IfOk result (IsOutcomeOf solo.now.state replies more pages) }
-{
-    let log = copy_log(alloc, solo.log())?;
-    let cells = copy_cells(alloc, solo.catalog())?;
-    Ok(Outcome {
-        short: lacks_answer(&replies) || more,
-        replies,
-        log,
-        cells,
-        entries: solo.entries(),
-        allotted: solo.allotted(),
-        limit: pages,
-    })
-}
-
 /// The replies of all seats.
 fn transcript(alloc: Global, seats: Vec<Seat>) -> Result<Transcript, NoMemory>
     ensures { IfOk result (λ replies. replies ≡ map (λ a. a.replies.items) seats.items) }
@@ -155,80 +127,11 @@ fn transcript(alloc: Global, seats: Vec<Seat>) -> Result<Transcript, NoMemory>
     Ok(replies)
 }
 
-/// The same events again.
-fn copy_log(alloc: Global, events: &[LogEvent]) -> Result<Log, NoMemory>
-    ensures { IfOk result (λ log. log ≡ events.now) }
-{
-    let mut log = Log::with_room(alloc, events.len())?;
-    for event in events {
-        log.push(copy_event(event))?;
-    }
-    Ok(log)
-}
-
-fn copy_event(event: &LogEvent) -> LogEvent
-    ensures { result ≡ event.now }
-{
-    match event {
-        LogEvent::Update {
-            session,
-            op,
-            update,
-        } => LogEvent::Update {
-            session: *session,
-            op: *op,
-            update: copy_update(update),
-        },
-        LogEvent::Split { prefix } => LogEvent::Split {
-            prefix: prefix.copy(),
-        },
-    }
-}
-
-fn copy_update(update: &Update) -> Update
-    ensures { result ≡ update.now }
-{
-    match update {
-        Update::Insert { id, vector } => Update::Insert {
-            id: *id,
-            vector: vector.copy(),
-        },
-        Update::Delete { id } => Update::Delete { id: *id },
-    }
-}
-
-/// The leaves of the catalog again.
-fn copy_cells(alloc: Global, catalog: &Catalog) -> Result<Leaves, NoMemory>
-    ensures { IfOk result (λ cells. cells ≡ catalog.now.leaves) }
-{
-    let mut cells = Leaves::with_room(alloc, catalog.len())?;
-    for place in 0..catalog.len() {
-        cells.push(catalog.leaf(place).copy())?;
-    }
-    Ok(cells)
-}
-
 /// A split was given up for want of memory, while scripts ran or after.
 fn lacks_split(splitter: &SplitterSeat, settled: &Result<(), NoMemory>) -> bool
     ensures { result ≡ (splitter.now.wanted || is_refused settled.now) }
 {
     splitter.wants_memory() || settled.is_err()
-}
-
-/// An answer is missing for want of memory.
-fn lacks_answer(replies: &Transcript) -> bool
-    ensures { result ≡ has_memory replies.now }
-{
-    replies.as_slice().iter().any(|list| lacks_one(list))
-}
-
-fn lacks_one(replies: &Replies) -> bool
-    ensures { result ≡ list_any is_memory replies.now }
-{
-    replies
-        .as_slice()
-        .iter()
-        .any(|reply| matches!(reply, Reply::Memory))
 }
 
 /// Memory was wanted for a page of one of the actors, which are so many. Each comes to its turn.

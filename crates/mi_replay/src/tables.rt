@@ -14,10 +14,10 @@ ghost use Rattle.mi_replay.specs.Tables.{HasRun, IsItemOver, IsNotOver, IsOver, 
 ghost use Rattle.mi_replay.specs.Tables.{TakeIsOver, Waits, settings_of};
 
 use crate::seats::Seat;
-use crate::splitters::SplitterSeat;
 use mi_base::{Actor, NoMemory, ScheduleItem, Script, Settings, Steps, Take};
 use mi_metric::Metric;
 use mi_perm::Pivots;
+use mi_settle::SplitterSeat;
 use mi_solo::Solo;
 use std::alloc::Global;
 use std::sync::ledger::Ledger;

@@ -1,6 +1,6 @@
 -- What a closed hall that was settled tells, once all its actors were absorbed, is the headline.
-use Rattle.std.proofs.Common.{◌≡◌, ◌≢◌, ℕ, ◌+◌, ◌<◌, ◌≤◌, List, [], ◌∷◌, ◌++◌, map, length, Bool, true, false, IsTrue, ◌||◌, Option, Some, None, refl, sym, ap, ◌∙◌, subst, arith, inl, inr, length-append}
-use Rattle.std.specs.Prelude.{Result, Ok, Err, is_err, slice_get, ◌==◌}
+use Rattle.std.proofs.Common.{◌≡◌, ℕ, ◌+◌, ◌<◌, ◌≤◌, List, [], ◌∷◌, ◌++◌, length, Bool, true, false, IsTrue, ◌||◌, refl, sym, ap, ◌∙◌, subst, arith, inl, inr, length-append}
+use Rattle.std.specs.Prelude.{Result, Ok, Err, is_err, ◌==◌}
 use Rattle.std.specs.List.{AllByRecursion, filter, list_any}
 use Rattle.std.proofs.lemmas.Bool.{false≢true, or_parts}
 use Rattle.std.proofs.lemmas.Bool.Decides.{eqb_tells}
@@ -10,27 +10,24 @@ use Rattle.mi_base.specs.declared.records.Op.{Op}
 use Rattle.mi_base.specs.declared.records.Reply.{Reply}
 use Rattle.mi_base.specs.declared.refusals.NoMemory.{NoMemory}
 use Rattle.mi_base.specs.Configuration.{Configuration}
-use Rattle.mi_base.specs.History.{Entered, entered, live, updates_of}
+use Rattle.mi_base.specs.History.{Entered, entered, updates_of}
 use Rattle.mi_base.specs.Prefixes.{has}
 use Rattle.mi_core.specs.Actors.{made_by}
-use Rattle.mi_core.specs.Kept.{Kept}
 use Rattle.mi_core.specs.State.{State}
-use Rattle.mi_entries.specs.Actors.{Actor}
-use Rattle.mi_hall.specs.Closing.{Closes, IsLast, Stands}
+use Rattle.mi_hall.specs.Closing.{Closes, IsLast}
 use Rattle.mi_latch.specs.Views.{IsOne}
 use Rattle.mi_legal.specs.Legal.{AllEntered, AllRight, EachRight, Legal, NeverFalls, accepted_in}
 use Rattle.mi_legal.specs.Want.{has_memory}
-use Rattle.mi_replay.specs.Headlines.{Headline}
-use Rattle.mi_replay.specs.Settling.{HoldsNothing, IsAtRest, IsSettled, LeavesSettled, is_refused}
-use Rattle.mi_replay.proofs.EntriesLemmas.{enough, total_is}
-use Rattle.mi_replay.proofs.OrderLemmas.{Later, later_all}
-use Rattle.mi_replay.proofs.OutcomeLegal.{named_but}
-use Rattle.mi_session.specs.Scripts.{AnswersAll}
+use Rattle.mi_settle.specs.Headlines.{Headline}
+use Rattle.mi_settle.specs.Outcomes.{IsOutcomeIn}
+use Rattle.mi_settle.specs.Settling.{IsAtRest, IsSettled, is_refused}
+use Rattle.mi_settle.proofs.LaterLemmas.{Later, later_all}
+use Rattle.mi_settle.proofs.HeadlineLemmas.{headline_of, named_but, settled_at}
 use Rattle.mi_session.proofs.ScriptLemmas.{all_forward, all_own, all_right}
 use Rattle.mi_solo.specs.Solos.{SoloState}
 use Rattle.mi_tree.specs.declared.outcomes.Outcome.{Outcome}
 use Rattle.mi_tree.specs.Growing.{Grows}
-use Rattle.mi_tree.specs.Legal.{LegalLog, Settled, cells_of}
+use Rattle.mi_tree.specs.Legal.{LegalLog}
 use Rattle.mi_tree.proofs.GrowingLemmas.{grows_on}
 use Rattle.mi_world.specs.View.{Absorbed, View}
 use Rattle.mi_run.specs.Crews.{AreAnswered, Ascends, HasAbsorbed, IsAnswered, Tells, absorbed_numbers, absorbed_own}
@@ -145,10 +142,6 @@ pub refused_is : (r : Result (Unit {0}) NoMemory) → is_err r ≡ is_refused r
 refused_is (Ok x) = refl
 refused_is (Err e) = refl
 
-settled_at : (r : Result (Unit {0}) NoMemory) (t : State) → is_refused r ≡ false → LeavesSettled r t → IsSettled t
-settled_at (Ok x) t e h = h
-settled_at (Err x) t e h = absurd (false≢true (sym e))
-
 module _ (c : Configuration) (scripts : List (List Op)) (v : View) (replies : List (List Reply)) (wanted : Bool) (o : Outcome) (of : v.settings ≡ c) (h : HasAbsorbed scripts v replies)
     (t : Tells v replies wanted c.pages o) where
   abbrev start : State
@@ -253,17 +246,7 @@ module _ (c : Configuration) (scripts : List (List Op)) (v : View) (replies : Li
 
   pub headline : Headline c scripts o
   headline =
-      let live_in : length (live (updates_of o.log)) ≡ length (live (updates_of log)) = ap (λ l. length (live (updates_of l))) t.outcome.log_is in
-      let entries = t.outcome.entries_are ∙ total_is t.last.pages in
-      record {
-        legal = subst (λ ys. Legal c scripts ys o.log o.allotted) (sym t.outcome.replies_are)
-            (subst (λ l. Legal c scripts replies l o.allotted) (sym t.outcome.log_is) (subst (λ a. Legal c scripts replies log a) (sym t.outcome.allotted_is) legal));
-        cells_are = t.outcome.cells_are ∙ ap (λ (z : Configuration). cells_of z log) settings ∙ ap (cells_of c) (sym t.outcome.log_is);
-        limit_is = t.outcome.limit_is;
-        answered = λ e. ap has_memory t.outcome.replies_are ∙ (short_parts e).0;
-        no_fewer = omega (arith, live_in, entries, enough t.last later.kept.sound);
-        whole = λ e. entries ∙ (is_settled e).entries ∙ sym live_in;
-        settled = λ e less.
-            let under : t.last.board.allotted < t.last.board.settings.pages = omega (arith, less, t.outcome.allotted_is, ap (λ (z : Configuration). z.pages) settings) in
-            subst (Settled c) (sym t.outcome.log_is) (subst (λ (z : Configuration). Settled z log) settings ((is_settled e).settled under));
-      }
+      let core = subst (λ (z : Configuration). IsOutcomeIn z o t.last) settings t.outcome.core in
+      let told : Legal c scripts o.replies o.log o.allotted = subst (λ ys. Legal c scripts ys o.log o.allotted) (sym t.outcome.replies_are)
+      (subst (λ l. Legal c scripts replies l o.allotted) (sym core.log_is) (subst (λ a. Legal c scripts replies log a) (sym core.allotted_is) legal)) in
+      headline_of c scripts o t.last later.kept settings core t.outcome.limit_is told (λ e. ap has_memory t.outcome.replies_are ∙ (short_parts e).0) is_settled

@@ -3,4 +3,3 @@ pub mod CrewLemmas
 pub mod GatherLemmas
 pub mod TendLemmas
 pub mod HeadlineLemmas
-pub mod TestLemmas

@@ -14,7 +14,7 @@ use Rattle.mi_job.specs.declared.care.Task.{Task}
 use Rattle.mi_job.specs.declared.care.Task.TheVariants.{Sweep, Split}
 use Rattle.mi_job.specs.Caring.{Begins, LeadsSplit, LeadsSweep, Makes, Ready, TaskIsReady, Turned}
 use Rattle.mi_job.specs.Claims.{ClaimsNone}
-use Rattle.mi_replay.proofs.SplitterTurns.{claims_ready}
+use Rattle.mi_settle.proofs.SplitterTurns.{claims_ready}
 use Rattle.mi_split.specs.declared.split.SplitOp.{SplitOp}
 use Rattle.mi_split.specs.declared.split.SplitTurn.{SplitTurn}
 use Rattle.mi_split.specs.declared.split.SplitTurn.TheVariants as divided

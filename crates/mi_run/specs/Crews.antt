@@ -11,8 +11,8 @@ use Rattle.mi_core.specs.State.{State}
 use Rattle.mi_hall.specs.Closing.{Closes}
 use Rattle.mi_hall.specs.Passes.{PassState, place_view}
 use Rattle.mi_job.specs.Claims.{ClaimsNone}
-use Rattle.mi_replay.specs.Outcomes.{IsOutcomeOf}
-use Rattle.mi_replay.specs.Settling.{Settles, is_refused}
+use Rattle.mi_settle.specs.Outcomes.{IsOutcomeOf}
+use Rattle.mi_settle.specs.Settling.{Settles, is_refused}
 use Rattle.mi_session.specs.Scripts.{AnswersAll}
 use Rattle.mi_solo.specs.Solos.{SoloState}
 use Rattle.mi_tree.specs.declared.outcomes.Outcome.{Outcome}

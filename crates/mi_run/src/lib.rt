@@ -7,6 +7,3 @@ mod tending;
 mod workers;
 
 pub use running::run;
-
-#[cfg(test)]
-mod tests;

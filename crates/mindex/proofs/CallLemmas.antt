@@ -34,7 +34,7 @@ use Rattle.mindex.specs.declared.statuses.Status.TheVariants as status
 use Rattle.mindex.specs.Statuses.{status_number}
 use Rattle.mindex.specs.Inputs.{AreGoodBefore, AreScriptTexts, AreTextsOf, EachHas, IsTextOf, GoodBefore, Inputs, MayHave, Names, ScriptsGoodBefore, Texts, are_sessions, first_script, settings_or_fault, in_file, inputs_of, replay_names_in, run_names_in, schedule_from, schedule_of, scripts_from, settings_from, settings_of}
 use Rattle.mindex.specs.Loading.{Finds, FindsAll, FindsScripts, HasMetric, Loads, LoadsAll, LoadsScripts, MayRun, stop_line, stop_status}
-use Rattle.mi_replay.specs.Headlines.{Headline}
+use Rattle.mi_settle.specs.Headlines.{Headline}
 use Rattle.mi_replay.specs.Tables.{ActorIsOver, IsItemOver, TakeIsOver}
 use Rattle.mindex.proofs.LoadingLemmas.{LoadsAt, some_text, some_text_is}
 use Rattle.mindex.proofs.ScriptsLemmas.{scripts_counted, some_texts, some_texts_are, texts_as_many, texts_then}

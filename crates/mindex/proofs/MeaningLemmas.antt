@@ -43,7 +43,7 @@ use Rattle.mi_legal.specs.Legal.{AllEntered, AllRight, EachRight, accepted_in, a
 use Rattle.mi_legal.specs.Right.{IsNearest, IsRange, IsUpdateNumber, Right}
 use Rattle.mi_legal.proofs.ReplyLemmas.{number_within}
 use Rattle.mi_rules.specs.Passing.{candidates, is_opened, is_reached, kth_distance, lets_through, opened_count, passes, reached_count}
-use Rattle.mi_replay.specs.Headlines.{Headline}
+use Rattle.mi_settle.specs.Headlines.{Headline}
 use Rattle.mi_print.specs.Meaning.{AreCoordinates, AreNumbers, IsPrintableEvent, IsPrintableReply, IsPrintableRow}
 use Rattle.mi_print.proofs.MeaningLemmas.{history_told}
 use Rattle.mindex.specs.Meaning.{AreLimited, OneHistory}

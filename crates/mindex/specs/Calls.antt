@@ -9,7 +9,7 @@ use Rattle.mi_input.specs.declared.faults.Reason.{Reason}
 use Rattle.mi_input.specs.declared.faults.Reason.TheVariants as reason
 use Rattle.mi_outside.specs.Outside.{Rose, SendsPart, SendsWhole}
 use Rattle.mi_outside.specs.States.{FilesState, SinkState}
-use Rattle.mi_replay.specs.Headlines.{Headline}
+use Rattle.mi_settle.specs.Headlines.{Headline}
 use Rattle.mi_replay.specs.InOrder.{InOrder}
 use Rattle.mi_replay.specs.Outcomes.{is_short_of}
 use Rattle.mi_tree.specs.declared.outcomes.Outcome.{Outcome}

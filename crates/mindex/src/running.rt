@@ -2,7 +2,7 @@
 ghost use Rattle.std.specs.Prelude.{◌≡◌, ◌+◌, ◌≤◌, IfOk, IsTrue, is_some, length, map};
 ghost use Rattle.std.specs.String.{string_bytes};
 ghost use Rattle.mi_outside.specs.Outside.{KeepsContents};
-ghost use Rattle.mi_replay.specs.Headlines.{Headline};
+ghost use Rattle.mi_settle.specs.Headlines.{Headline};
 ghost use Rattle.mindex.specs.Calls.{Answered, Answers, Completes, RunSays, Says, Spoken};
 ghost use Rattle.mindex.specs.Inputs.{run_names_in};
 ghost use Rattle.mindex.specs.Loading.{MayRun, inputs_in};

@@ -1,7 +1,8 @@
 use Rattle.std.proofs.Common.{[], ◌+◌, ◌-◌, ◌++◌, length}
 use Rattle.mi_core.specs.Events.{opened}
 use Rattle.mi_replay.specs.InOrder.{rounds}
-use Rattle.mi_replay.proofs.RunLemmas.{blocks_chained, chained_on}
+use Rattle.mi_replay.proofs.RunLemmas.{blocks_chained}
+use Rattle.mi_settle.proofs.TurnLemmas.{chained_on}
 use Rattle.mi_replay.proofs.laws.runs_in_order_are_runs.Goals as goal
 
 pub returns : goal.returns

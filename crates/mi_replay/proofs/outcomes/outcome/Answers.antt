@@ -1,10 +1,10 @@
 use Rattle.std.proofs.Common.{◌||◌, length, sym, ap, ◌∙◌, subst}
 use Rattle.mi_legal.specs.Want.{has_memory}
 use Rattle.mi_replay.specs.Outcomes.{lacks_page}
-use Rattle.mi_replay.specs.Settling.{Settles}
-use Rattle.mi_replay.specs.Turns.{ComesTo}
+use Rattle.mi_settle.specs.Settling.{Settles}
+use Rattle.mi_settle.specs.Turns.{ComesTo}
 use Rattle.mi_replay.proofs.OutcomeLemmas.{all_going, at_rest, short_parted}
-use Rattle.mi_replay.proofs.SeatViews.{comes}
+use Rattle.mi_settle.proofs.ComingLemmas.{comes}
 use Rattle.mi_replay.proofs.outcomes.outcome.Goals as goal
 
 pub settle-settled-requires : goal.settle-settled-requires
@@ -57,10 +57,12 @@ returns c =
       result = c.settle-settled.result;
       last = c.settle-settled.new.solo.state;
       settles = settles;
-      log_is = c.in_ok-outcome.ensures.log_is;
-      cells_are = c.in_ok-outcome.ensures.cells_are;
-      entries_are = c.in_ok-outcome.ensures.entries_are;
-      allotted_is = c.in_ok-outcome.ensures.allotted_is;
+      core = record {
+        log_is = c.in_ok-outcome.ensures.core.log_is;
+        cells_are = c.in_ok-outcome.ensures.core.cells_are;
+        entries_are = c.in_ok-outcome.ensures.core.entries_are;
+        allotted_is = c.in_ok-outcome.ensures.core.allotted_is;
+      };
       limit_is = c.in_ok-outcome.ensures.limit_is;
       replies_are = c.in_ok-outcome.ensures.replies_are ∙ c.in_ok-replies.ensures;
       short_is = ap (λ b. b || c.lacks_page.result) c.in_ok-outcome.ensures.short_is

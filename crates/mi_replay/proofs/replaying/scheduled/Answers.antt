@@ -7,7 +7,7 @@ use Rattle.mi_base.specs.Configuration.{Configuration, metric_space}
 use Rattle.mi_base.specs.Space.{IsMetric}
 use Rattle.mi_replay.specs.Tables.{IsItemOver, Ran}
 use Rattle.mi_replay.proofs.SpendingTables.{spent_none}
-use Rattle.mi_replay.proofs.TableOpening.{all_at}
+use Rattle.mi_tree.proofs.ListLemmas.{all_get}
 use Rattle.mi_replay.proofs.replaying.scheduled.Goals as goal
 
 pub open-requires-clause-metric : goal.open-requires-clause-metric
@@ -28,7 +28,7 @@ pub item-requires-clause-pivots : goal.item-requires-clause-pivots
 item-requires-clause-pivots g c = c.requires.pivots ∙ ap (λ (k : Configuration). k.pivots) (sym c.loop-place.invariant.ran.at.settings)
 
 pub item-requires-clause-item : goal.item-requires-clause-item
-item-requires-clause-item g c = all_at (IsItemOver (length c.args.scripts.now)) c.args.schedule.now c.loop-place.place c.at-item.result.now c.requires.schedule c.at-item.ensures
+item-requires-clause-item g c = all_get (IsItemOver (length c.args.scripts.now)) c.args.schedule.now c.loop-place.place c.at-item.result.now c.requires.schedule c.at-item.ensures
 
 pub loop-place-preserved : goal.loop-place-preserved
 loop-place-preserved g c =

@@ -1,8 +1,8 @@
 use Rattle.std.proofs.Common.{◌≡◌, ◌||◌, ◌∙◌, sym, ap, subst}
 use Rattle.std.proofs.lemmas.Result.{IfOk-weaker}
 use Rattle.mi_hall.specs.Passes.{place_view}
-use Rattle.mi_replay.specs.Outcomes.{IsOutcomeOf}
-use Rattle.mi_replay.specs.Settling.{is_refused}
+use Rattle.mi_settle.specs.Outcomes.{IsOutcomeOf}
+use Rattle.mi_settle.specs.Settling.{is_refused}
 use Rattle.mi_run.specs.Crews.{Tells}
 use Rattle.mi_run.proofs.HeadlineLemmas.{closed_rest, is_last, refused_is}
 use Rattle.mi_run.proofs.running.close.Goals as goal

@@ -4,7 +4,7 @@ use Rattle.std.proofs.lemmas.Result.{IfOk-weaker}
 use Rattle.mi_base.specs.Configuration.{Configuration, IsWithinLimits}
 use Rattle.mi_hall.specs.Passes.{place_view}
 use Rattle.mi_latch.specs.Views.{Sight}
-use Rattle.mi_replay.specs.Headlines.{Headline}
+use Rattle.mi_settle.specs.Headlines.{Headline}
 use Rattle.mi_run.specs.Crews.{Tells}
 use Rattle.mi_run.proofs.HeadlineLemmas.{headline}
 use Rattle.mi_run.proofs.running.run.Goals as goal

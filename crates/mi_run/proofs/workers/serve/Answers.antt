@@ -8,7 +8,7 @@ use Rattle.mi_base.specs.Configuration.{Configuration, metric_space}
 use Rattle.mi_base.specs.Scripts.{IsOpOver}
 use Rattle.mi_base.specs.Space.{MetricSpace}
 use Rattle.mi_hall.specs.Passes.{place_view}
-use Rattle.mi_replay.proofs.TableOpening.{all_at}
+use Rattle.mi_tree.proofs.ListLemmas.{all_get}
 use Rattle.mi_session.specs.Scripts.{AnswersAll}
 use Rattle.mi_session.specs.Sessions.{Answers}
 use Rattle.mi_session.proofs.ScriptLemmas.{all_later, answers_more}
@@ -23,7 +23,7 @@ drive-reply-requires-clause-fits g c =
     let at : slice_get ops l.op-index ≡ Some o = slice_get_read ops (length ops) l.op-index o refl c.loop-op-test.true c.op-item.is in
     let v = place_view c.args.place in
     let later = all_later 1 v (take l.op-index ops) l.replies.items (place_view l.session.world) l.invariant.answers in
-    λ κs outlives. subst (λ (m : MetricSpace). IsOpOver m o) (c.requires.seated.space_is ∙ ap metric_space (sym later.settings)) (all_at (IsOpOver (g.M.Metric.space c.args.metric.now)) ops l.op-index o (subst (AllByRecursion (IsOpOver (g.M.Metric.space c.args.metric.now))) (sym c.as_slice-ops.ensures) c.requires.fits.each) at)
+    λ κs outlives. subst (λ (m : MetricSpace). IsOpOver m o) (c.requires.seated.space_is ∙ ap metric_space (sym later.settings)) (all_get (IsOpOver (g.M.Metric.space c.args.metric.now)) ops l.op-index o (subst (AllByRecursion (IsOpOver (g.M.Metric.space c.args.metric.now))) (sym c.as_slice-ops.ensures) c.requires.fits.each) at)
 
 pub loop-op-preserved : goal.loop-op-preserved
 loop-op-preserved g c =

@@ -1,5 +1,5 @@
 use Rattle.std.proofs.lemmas.Result.{IfOk-weaker}
-use Rattle.mi_replay.specs.Headlines.{Headline}
+use Rattle.mi_settle.specs.Headlines.{Headline}
 use Rattle.mindex.specs.Calls.{KeepsSchedule}
 use Rattle.mindex.specs.Loading.{inputs_in}
 use Rattle.mindex.proofs.CallLemmas.{spoken_of}

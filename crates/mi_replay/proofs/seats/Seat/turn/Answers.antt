@@ -3,7 +3,7 @@ use Rattle.mi_solo.specs.Solos.{MayTurn}
 use Rattle.mi_replay.specs.Seats.{SeatReady, SeatTurned}
 use Rattle.mi_replay.specs.Spending.{SeatSpends}
 use Rattle.mi_replay.proofs.SeatBlocks.{ready_seen, waits_after}
-use Rattle.mi_replay.proofs.SeatViews.{comes, comes_same, may_still}
+use Rattle.mi_settle.proofs.ComingLemmas.{comes, comes_same, may_still}
 use Rattle.mi_replay.proofs.SpendingLemmas.{spends_from}
 use Rattle.mi_replay.proofs.seats.Seat.turn.Goals as goal
 

@@ -1,5 +1,0 @@
-use Rattle.mi_replay.proofs.SettlingLemmas.{settled_core}
-use Rattle.mi_replay.proofs.settled.trimmed_cores_are_settled.Goals as goal
-
-pub returns : goal.returns
-returns c = settled_core

@@ -1,0 +1,12 @@
+pub mod LaterLemmas
+pub mod TurnLemmas
+pub mod ComingLemmas
+pub mod EntriesLemmas
+pub mod EntriesLemmasRest
+pub mod EntriesLemmasTrim
+pub mod SplitterEvents
+pub mod SplitterWork
+pub mod SplitterSections
+pub mod SplitterTurns
+pub mod SettlingLemmas
+pub mod HeadlineLemmas
