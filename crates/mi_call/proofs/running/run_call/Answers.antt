@@ -1,0 +1,14 @@
+use Rattle.std.proofs.Common.{map}
+use Rattle.std.specs.String.{string_bytes}
+use Rattle.mi_call.specs.Inputs.{run_names_in}
+use Rattle.mi_call.proofs.CallLemmas.{completes}
+use Rattle.mi_call.proofs.running.run_call.Goals as goal
+
+pub returns-clause-answered : goal.returns-clause-answered
+returns-clause-answered g c = record { ended = c.answer_run.result; number_is = c.number.ensures; answers = c.answer_run.ensures.answers }
+
+pub returns-clause-complete : goal.returns-clause-complete
+returns-clause-complete g c =
+    completes (run_names_in (map string_bytes c.args.words.now)) (g.F.Files.state c.args.files.now) (g.F.Files.state c.answer_run.new.files)
+    (g.S.Sink.state c.args.out.now) (g.S.Sink.state c.answer_run.new.out) c.number.result
+    (record { ended = c.answer_run.result; number_is = c.number.ensures; answers = c.answer_run.ensures.answers })
