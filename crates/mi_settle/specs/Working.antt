@@ -42,4 +42,3 @@ GivesWork event = ⊥
 
 abbrev pub BeginsWork : ℕ → Turn → Type 0
 BeginsWork a u = u.actor ≡ a → u.begins ≡ true → GivesWork u.event
-

@@ -110,11 +110,7 @@ pub fn pin_row<L: Ledger>(
 }
 
 /// Takes the board's next page in the hand of the row.
-pub fn allot_row(
-    alloc: Global,
-    board: &mut Board,
-    row: &mut ActorRow,
-) -> Result<(), AllotRefusal>
+pub fn allot_row(alloc: Global, board: &mut Board, row: &mut ActorRow) -> Result<(), AllotRefusal>
     ensures { AllotsRow result board.old row.old board.new row.new }
 {
     match row.hand.allot(alloc, board) {
