@@ -34,7 +34,7 @@ use Rattle.mi_update.specs.declared.delete.DeleteState.{DeleteState}
 use Rattle.mi_update.specs.declared.delete.DeleteState.TheVariants.{Begin, Looking, Reserving, Claiming, Committing, Unclaiming, Releasing, Over}
 use Rattle.mi_update.specs.Endings.{Answered, IsRight, reply_of}
 use Rattle.mi_update.specs.Stepping.{Advances, HoldsShard}
-use Rattle.mi_update.specs.Deleting.{Ready, Knows, Prepared, Seeking, IsCommitted, StateIsReady, Since, Turned, FindsHeld, Follows, root_after, left, left_in, made, number_at, perm_in, perm_of, since_at, asked}
+use Rattle.mi_update.specs.Deleting.{Makes, Ready, Knows, Prepared, Seeking, IsCommitted, StateIsReady, Since, Turned, FindsHeld, Follows, root_after, left, left_in, made, number_at, perm_in, perm_of, since_at, asked}
 use Rattle.mi_update.proofs.SteppingLemmas.{advances_none, answered_stays, ends_stay, enters_last, own_kept, reaches_last, seen_more}
 
 pub knows_stays : (id : ℕ) (kept : Option Record) (v w : View) → SameUpdate v w → Knows id kept v → Knows id kept w
@@ -60,8 +60,9 @@ pub goes_on : (op : DeleteOp) (v w : View) (s₀ s : DeleteState) (root : ℕ) (
     → Follows s₀ s root
     → root ≡ root_after s₀ s op.root w
     → left_in s w < left_in s₀ v
+    → Makes s₀ op v (record op { state = s; root = root; kept = kept }) w
     → Turned op v turn.More (record op { state = s; root = root; kept = kept }) w
-goes_on op v w s₀ s root kept ready e l a f o advances state follows root_is less = record {
+goes_on op v w s₀ s root kept ready e l a f o advances state follows root_is less makes = record {
   id_is = refl;
   op_is = refl;
   later = l;
@@ -71,13 +72,14 @@ goes_on op v w s₀ s root kept ready e l a f o advances state follows root_is l
   advances = rw e (record { enters = advances.enters; not_before = advances.not_before });
   follows = rw e follows;
   root_is = subst (λ x. root ≡ root_after x s op.root w) (sym e) root_is;
+  makes = subst (λ x. Makes x op v (record op { state = s; root = root; kept = kept }) w) (sym e) makes;
   outcome = (record { idle = a.sweep.sweep ∙ ready.idle; unsplit = a.split.splitting ∙ ready.unsplit; state = state }, rw e (falls_by v w (left_in s₀ v) (left_in s w) l f less));
 }
 
 -- a section that finds a claim held
 stands_still : (op : DeleteOp) (v w : View) (s : DeleteState) → Ready op v → op.state ≡ s → Later v w → SameApart v w → w.own ≡ v.own → w.fresh ≡ v.fresh → w.owes ≡ v.owes
-    → since_at s v.seen ≤ since_at s w.seen → Follows s s op.root → op.root ≡ root_after s s op.root w → StateIsReady s op w → FindsHeld op w → Turned op v turn.Held op w
-stands_still op v w s ready e l a own f o since follows root_is state held = record {
+    → since_at s v.seen ≤ since_at s w.seen → Follows s s op.root → op.root ≡ root_after s s op.root w → StateIsReady s op w → FindsHeld op w → Makes s op v op w → Turned op v turn.Held op w
+stands_still op v w s ready e l a own f o since follows root_is state held makes = record {
   id_is = refl;
   op_is = refl;
   later = l;
@@ -87,6 +89,7 @@ stands_still op v w s ready e l a own f o since follows root_is state held = rec
   advances = rw e (advances_none op.op (made op) (number_at s) _ _ v w own since);
   follows = rw e follows;
   root_is = subst (λ x. op.root ≡ root_after x x op.root w) (sym e) root_is;
+  makes = subst (λ x. Makes x op v op w) (sym e) makes;
   outcome = record {
     ready = record { idle = a.sweep.sweep ∙ ready.idle; unsplit = a.split.splitting ∙ ready.unsplit; state = subst (λ x. StateIsReady x op w) (sym e) state };
     same = refl;
@@ -102,15 +105,18 @@ module _ (op : DeleteOp) (v w : View) (ready : Ready op v) (state : op.state ≡
   pub begins_absent : ClaimsShard v w op.id (shard_claim.Taken None) → Turned op v turn.More (record op { state = Looking }) w
   begins_absent k = goes_on op v w Begin Looking op.root op.kept ready state k.later k.apart k.fresh k.owes
       (advances_none op.op (made op) None _ _ v w k.own (seen_more v w k.later)) (record { shard = k.answer.1; leaf = k.leaf.leaf ∙ begun.1 }, k.answer.2) tt refl (omega arith)
+      (shard_claim.Taken None, k, refl, refl)
 
   pub begins_known : (r : Record) → ClaimsShard v w op.id (shard_claim.Taken (Some r)) → Turned op v turn.More (record op { state = Reserving; kept = Some r }) w
   begins_known r k = goes_on op v w Begin Reserving op.root (Some r) ready state k.later k.apart k.fresh k.owes
       (advances_none op.op (made op) None _ _ v w k.own (seen_more v w k.later))
       (record { shard = k.answer.1; record_is = k.answer.2; found = r; is = refl }, k.leaf.leaf ∙ begun.1) tt refl (omega arith)
+      (shard_claim.Taken (Some r), k, refl, refl)
 
   pub begins_held : ClaimsShard v w op.id shard_claim.Held → Turned op v turn.Held op w
   begins_held k = stands_still op v w Begin ready state k.later k.apart k.own k.fresh k.owes (seen_more v w k.later) tt refl (k.answer.1, k.leaf.leaf ∙ begun.1)
       (inl (state, record { tried = k.tried; other = k.answer.0; shard = k.answer.1; leaf = k.leaf.leaf ∙ begun.1 }))
+      (shard_claim.Held, k, state, refl)
 
 -- the identifier isn't live
 module _ (op : DeleteOp) (v w : View) (look : Look) (ready : Ready op v) (state : op.state ≡ Looking) (k : Looks v w look) where
@@ -130,6 +136,7 @@ module _ (op : DeleteOp) (v w : View) (look : Look) (ready : Ready op v) (state 
   looks = goes_on op v w Looking (Releasing (ending.Absent look.at)) op.root op.kept ready state k.later k.same.work.apart k.same.fresh k.same.owes
       (advances_none op.op (made op) None _ _ v w k.same.work.update.own (rw k.tells.at_is (omega (arith, seen_more v w k.later, end_events w.seen))))
       (record { shard = held; leaf = k.same.work.leaf.leaf ∙ was.0.leaf }, record { right = rw k.tells.at_is absent_right; few = k.board.legal.few }) tt refl (omega arith)
+      (look, k, refl)
 
 -- the record agrees with the log
 agrees_now : (id : ℕ) (kept : Option Record) (w : View) → SeesBoard w → w.shard ≡ Some (shard_of id) → w.records id ≡ kept → Agrees w.settings w.seen id kept
@@ -177,6 +184,7 @@ module _ (op : DeleteOp) (v w : View) (ready : Ready op v) (state : op.state ≡
         },
         k.leaf.leaf ∙ free.1,
       ) tt t.root_is (omega arith)
+      (Ok look, k, refl)
 
   pub reserves_full : (limit : ℕ) → Reserves v w (Err (reserve.Full limit)) → Turned op v turn.More (record op { state = Releasing (ending.Full limit) }) w
   reserves_full limit k =
@@ -184,11 +192,13 @@ module _ (op : DeleteOp) (v w : View) (ready : Ready op v) (state : op.state ≡
       goes_on op v w Reserving (Releasing (ending.Full limit)) op.root op.kept ready state k.later k.apart k.fresh k.owes
       (advances_none op.op (made op) None _ _ v w k.own (seen_more v w k.later))
       (record { shard = n.shard; leaf = k.leaf.leaf ∙ free.1 }, full_answered op w limit k.board n k.answer.0 k.answer.1) tt refl (omega arith)
+      (Err (reserve.Full limit), k, refl)
 
   pub reserves_memory : Reserves v w (Err reserve.Memory) → Turned op v turn.More (record op { state = Releasing ending.Memory }) w
   reserves_memory k = goes_on op v w Reserving (Releasing ending.Memory) op.root op.kept ready state k.later k.apart k.fresh k.owes
       (advances_none op.op (made op) None _ _ v w k.own (seen_more v w k.later))
       (record { shard = k.shard ∙ free.0.shard; leaf = k.leaf.leaf ∙ free.1 }, record { right = λ allotted all. tt; few = k.board.legal.few }) tt refl (omega arith)
+      (Err reserve.Memory, k, refl)
 
 -- the leaf is claimed, or another actor holds it
 module _ (op : DeleteOp) (v w : View) (perm : List ℕ) (ready : Ready op v) (state : op.state ≡ Claiming) (is : perm ≡ perm_in op) where
@@ -203,6 +213,7 @@ module _ (op : DeleteOp) (v w : View) (perm : List ℕ) (ready : Ready op v) (st
       (advances_none op.op (made op) None _ _ v w k.update.own (seen_more v w k.later))
       (record { prepared = p; claimed = rw k.answer.2 begun; named = p.root_is.named; low_is = rw p.root_is.low_is (omega arith); small = p.root_is.small })
       refl refl (omega (arith, descent_longest w op.root))
+      (claim.Taken leaf, subst (λ x. ClaimsLeaf v w x (claim.Taken leaf)) is k, refl)
 
   pub claims_not : (by : ℕ) → ClaimsLeaf v w perm (claim.Held by) → Turned op v turn.Held op w
   claims_not by k =
@@ -214,6 +225,7 @@ module _ (op : DeleteOp) (v w : View) (perm : List ℕ) (ready : Ready op v) (st
         record { prefix = leaf_of (grid_under w.settings) w.seen perm; begun = begun; other = record { by = by; is = k.answer.1; other = k.answer.2 }; leaf = k.answer.0 },
         agrees_now op.id op.kept w k.board p.knows.shard p.knows.record_is,
       ))
+      (claim.Held by, subst (λ x. ClaimsLeaf v w x (claim.Held by)) is k, state)
 
 -- a commit
 module _ (op : DeleteOp) (v w : View) (page : ℕ) (ready : Ready op v) (state : op.state ≡ Committing page) where
@@ -235,6 +247,7 @@ module _ (op : DeleteOp) (v w : View) (page : ℕ) (ready : Ready op v) (state :
         low_is = rw (key_stays k.later k.leaf k.answer.0.update.records) d.low_is;
         small = omega (arith, d.level_is, seeking.small);
       }) tt refl (omega (arith, down_less v w page q 0 _ seeking.small d))
+      (commit.Down q, k, refl)
 
   pub commits_right : (q : ℕ) → CommitsDelete v w page op.op op.id (commit.Right q) → Turned op v turn.More (record op { state = Committing q }) w
   commits_right q k =
@@ -248,6 +261,7 @@ module _ (op : DeleteOp) (v w : View) (page : ℕ) (ready : Ready op v) (state :
         low_is = rw (key_stays k.later k.leaf k.answer.0.update.records) d.low_is;
         small = omega (arith, d.level_is, seeking.small);
       }) tt refl (omega (arith, right_less v w page q 0 _ d))
+      (commit.Right q, k, refl)
 
   pub commits_full : (limit : ℕ) → CommitsDelete v w page op.op op.id (commit.Full limit) → Turned op v turn.More (record op { state = Unclaiming (ending.Full limit) }) w
   commits_full limit k =
@@ -255,6 +269,7 @@ module _ (op : DeleteOp) (v w : View) (page : ℕ) (ready : Ready op v) (state :
       goes_on op v w (Committing page) (Unclaiming (ending.Full limit)) op.root op.kept ready state k.later k.apart k.fresh k.owes
       (advances_none op.op (made op) None _ _ v w k.answer.0.update.own (seen_more v w k.later))
       (n.shard, rw k.leaf seeking.claimed, full_answered op w limit k.board n k.answer.2.limit_is k.answer.2.many, tt) tt refl (omega arith)
+      (commit.Full limit, k, refl)
 
   pub commits_done : (number : ℕ) → CommitsDelete v w page op.op op.id (commit.Done number) → Turned op v turn.More (record op { state = Unclaiming (ending.Removed number) }) w
   commits_done number k =
@@ -270,6 +285,7 @@ module _ (op : DeleteOp) (v w : View) (page : ℕ) (ready : Ready op v) (state :
         },
         tt,
       ) tt refl (omega arith)
+      (commit.Done number, k, refl)
 
 -- the leaf is released
 module _ (op : DeleteOp) (v w : View) (e : Ending) (ready : Ready op v) (state : op.state ≡ Unclaiming e) where
@@ -280,6 +296,7 @@ module _ (op : DeleteOp) (v w : View) (e : Ending) (ready : Ready op v) (state :
   unclaims k = goes_on op v w (Unclaiming e) (Releasing e) op.root op.kept ready state k.later k.apart k.fresh k.owes
       (advances_none op.op (made op) _ _ _ v w k.update.own (ends_stay (asked op) op.op v w k.later e ended.2))
       (record { shard = k.update.shard ∙ ended.0; leaf = k.leaf }, answered_stays (asked op) op.op v w e k.later ended.2) refl refl (omega arith)
+      (k, refl)
 
 -- and the shard
 module _ (op : DeleteOp) (v w : View) (e : Ending) (ready : Ready op v) (state : op.state ≡ Releasing e) where
@@ -297,6 +314,7 @@ module _ (op : DeleteOp) (v w : View) (e : Ending) (ready : Ready op v) (state :
     advances = rw state (advances_none op.op (made op) _ _ _ v w k.own (ends_stay (asked op) op.op v w k.later e last.1));
     follows = rw state refl;
     root_is = subst (λ x. op.root ≡ root_after x (Over e) op.root w) (sym state) refl;
+    makes = subst (λ x. Makes x op v (record op { state = Over e }) w) (sym state) (k, refl);
     outcome = (k.shard, k.leaf.leaf ∙ last.0.leaf, e, refl, refl, answered_stays (asked op) op.op v w e k.later last.1);
   }
 

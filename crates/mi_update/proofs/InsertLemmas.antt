@@ -45,7 +45,7 @@ use Rattle.mi_update.specs.declared.insert.InsertState.{InsertState}
 use Rattle.mi_update.specs.declared.insert.InsertState.TheVariants.{Begin, Looking, Reserving, Claiming, Committing, Splitting, Allotting, Halving, Posting, Unclaiming, Releasing, Over}
 use Rattle.mi_update.specs.Endings.{Answered, IsRight, reply_of}
 use Rattle.mi_update.specs.Stepping.{Advances, HoldsShard}
-use Rattle.mi_update.specs.Inserting.{made, number_at, pending_in, since_at, Ready, Fits, Prepared, Seeking, Seeks, HasLeaf, StateIsReady, PostIsReady, Since, Turned, Waits, Crowds, Follows, root_after, root_of_post, left_in, post_left, posts_of, splits_left, round, perm_in, asked}
+use Rattle.mi_update.specs.Inserting.{Makes, made, number_at, pending_in, since_at, Ready, Fits, Prepared, Seeking, Seeks, HasLeaf, StateIsReady, PostIsReady, Since, Turned, Waits, Crowds, Follows, root_after, root_of_post, left_in, post_left, posts_of, splits_left, round, perm_in, asked}
 use Rattle.mi_update.proofs.SteppingLemmas.{advances_none, answered_stays, ends_stay, enters_last, own_kept, reaches_last, seen_more}
 
 -- splits that others make leave fewer
@@ -111,8 +111,9 @@ pub goes_on : (op : InsertOp) (v w : View) (s₀ s : InsertState) (root : ℕ) (
     → Follows s₀ s root w
     → root ≡ root_after s₀ s op.post op.root w
     → ((split : ℕ) → IsTrue w.tells_full → Falls v (splits_left op v * round split + left_in split s₀ op.post v) w (splits_left op w * round split + left_in split s post w))
+    → Makes s₀ op v (record op { state = s; root = root; leaf = leaf; post = post }) w
     → Turned op v turn.More (record op { state = s; root = root; leaf = leaf; post = post }) w
-goes_on op v w s₀ s root leaf post ready e l a advances owes state follows root_is falls =
+goes_on op v w s₀ s root leaf post ready e l a advances owes state follows root_is falls makes =
     record {
       id_is = refl;
       op_is = refl;
@@ -124,6 +125,7 @@ goes_on op v w s₀ s root leaf post ready e l a advances owes state follows roo
       owes = λ owed. rw e (owes owed);
       follows = rw e follows;
       root_is = subst (λ x. root ≡ root_after x s op.post op.root w) (sym e) root_is;
+      makes = subst (λ x. Makes x op v (record op { state = s; root = root; leaf = leaf; post = post }) w) (sym e) makes;
       outcome = (record { fits = fits_stay op.vector op.dists.items v w l a ready.fits; state = state }, λ split t. rw e (falls split t));
     }
 
@@ -134,8 +136,8 @@ so_turned op new back v w answer told f e t = subst (λ a. Turned op v a new w) 
 -- a section that finds a claim held
 stands_still : (op : InsertOp) (v w : View) (s : InsertState) → Ready op v → op.state ≡ s → Later v w → SameApart v w → w.own ≡ v.own → w.owes ≡ v.owes
     → number_at s ≡ None → since_at s v.seen ≤ since_at s w.seen → ((owed : ℕ → Bool) → OwesOnly owed (pending_in s op.post) v → OwesOnly owed (pending_in s op.post) w)
-    → Follows s s op.root w → op.root ≡ root_after s s op.post op.root w → StateIsReady s op w → Rattle.mi_update.specs.Inserting.FindsHeld op w → Turned op v turn.Held op w
-stands_still op v w s ready e l a own owes none since owed follows root_is state held = record {
+    → Follows s s op.root w → op.root ≡ root_after s s op.post op.root w → StateIsReady s op w → Rattle.mi_update.specs.Inserting.FindsHeld op w → Makes s op v op w → Turned op v turn.Held op w
+stands_still op v w s ready e l a own owes none since owed follows root_is state held makes = record {
   id_is = refl;
   op_is = refl;
   vector_is = refl;
@@ -146,6 +148,7 @@ stands_still op v w s ready e l a own owes none since owed follows root_is state
   owes = λ o. rw e (owed o);
   follows = rw e follows;
   root_is = subst (λ x. op.root ≡ root_after x x op.post op.root w) (sym e) root_is;
+  makes = subst (λ x. Makes x op v op w) (sym e) makes;
   outcome = record {
     ready = record { fits = fits_stay op.vector op.dists.items v w l a ready.fits; state = subst (λ x. StateIsReady x op w) (sym e) state };
     same = refl;
@@ -163,17 +166,20 @@ module _ (op : InsertOp) (v w : View) (ready : Ready op v) (state : op.state ≡
       (advances_none op.op (made op) None _ _ v w k.own (seen_more v w k.later)) (owes_stay v w k.later k.owes)
       (record { shard = k.answer.1; leaf = k.leaf.leaf ∙ begun.1 }, rw k.answer.2 refl) tt refl
       (λ split _. falls_in split op v w _ _ k.later k.fresh (omega arith))
+      (shard_claim.Taken (Some r), k, refl)
 
   pub begins_absent : ClaimsShard v w op.id (shard_claim.Taken None) → Turned op v turn.More (record op { state = Reserving }) w
   begins_absent k = goes_on op v w Begin Reserving op.root op.leaf op.post ready state k.later k.apart
       (advances_none op.op (made op) None _ _ v w k.own (seen_more v w k.later)) (owes_stay v w k.later k.owes)
       (record { shard = k.answer.1; leaf = k.leaf.leaf ∙ begun.1 }, k.answer.2) tt refl
       (λ split _. falls_in split op v w _ _ k.later k.fresh (omega arith))
+      (shard_claim.Taken None, k, refl)
 
   pub begins_held : ClaimsShard v w op.id shard_claim.Held → Turned op v turn.Held op w
   begins_held k = stands_still op v w Begin ready state k.later k.apart k.own k.owes refl (seen_more v w k.later) (owes_stay v w k.later k.owes) tt refl
       (k.answer.1, k.leaf.leaf ∙ begun.1)
       (inl (state, record { tried = k.tried; other = k.answer.0; shard = k.answer.1; leaf = k.leaf.leaf ∙ begun.1 }))
+      (shard_claim.Held, k, state)
 
 -- the identifier is live
 module _ (op : InsertOp) (v w : View) (look : Look) (ready : Ready op v) (state : op.state ≡ Looking) (k : Looks v w look) where
@@ -198,6 +204,7 @@ module _ (op : InsertOp) (v w : View) (look : Look) (ready : Ready op v) (state 
       (advances_none op.op (made op) None _ _ v w k.same.work.update.own (rw k.tells.at_is (omega (arith, seen_more v w k.later, end_events w.seen)))) (owes_stay v w k.later k.same.owes)
       (record { shard = held; leaf = k.same.work.leaf.leaf ∙ was.0.leaf }, record { right = rw k.tells.at_is present_right; few = k.board.legal.few }) tt refl
       (λ split _. falls_in split op v w _ _ k.later k.same.fresh (omega arith))
+      (look, k, refl)
 
 full_answered : (op : InsertOp) (w : View) (limit : ℕ) → SeesBoard w → w.shard ≡ Some (shard_of op.id) → w.records op.id ≡ None → limit ≡ w.settings.updates
     → length (updates_of w.seen) ≡ limit → Answered (asked op) op.op w (ending.Full limit)
@@ -228,6 +235,7 @@ module _ (op : InsertOp) (v w : View) (ready : Ready op v) (state : op.state ≡
         k.leaf.leaf ∙ free.0.leaf,
       ) tt t.root_is
       (λ split _. falls_in split op v w _ _ k.later k.fresh (omega arith))
+      (Ok look, k, refl)
 
   pub reserves_full : (limit : ℕ) → Reserves v w (Err (reserve.Full limit)) → Turned op v turn.More (record op { state = Releasing (ending.Full limit) }) w
   reserves_full limit k = goes_on op v w Reserving (Releasing (ending.Full limit)) op.root op.leaf op.post ready state k.later k.apart
@@ -236,12 +244,14 @@ module _ (op : InsertOp) (v w : View) (ready : Ready op v) (state : op.state ≡
         full_answered op w limit k.board (k.shard ∙ free.0.shard) (ap (λ (f : ℕ → Option Record). f op.id) k.records ∙ free.1) k.answer.0 k.answer.1,
       ) tt refl
       (λ split _. falls_in split op v w _ _ k.later k.fresh (omega arith))
+      (Err (reserve.Full limit), k, refl)
 
   pub reserves_memory : Reserves v w (Err reserve.Memory) → Turned op v turn.More (record op { state = Releasing ending.Memory }) w
   reserves_memory k = goes_on op v w Reserving (Releasing ending.Memory) op.root op.leaf op.post ready state k.later k.apart
       (advances_none op.op (made op) None _ _ v w k.own (seen_more v w k.later)) (owes_stay v w k.later k.owes)
       (record { shard = k.shard ∙ free.0.shard; leaf = k.leaf.leaf ∙ free.0.leaf }, memory_answered op w k.board.legal.few) tt refl
       (λ split _. falls_in split op v w _ _ k.later k.fresh (omega arith))
+      (Err reserve.Memory, k, refl)
 
 -- the leaf is claimed, or another actor holds it
 module _ (op : InsertOp) (v w : View) (perm : List ℕ) (ready : Ready op v) (state : op.state ≡ Claiming) (is : perm ≡ perm_in op) where
@@ -262,6 +272,7 @@ module _ (op : InsertOp) (v w : View) (perm : List ℕ) (ready : Ready op v) (st
         small = p.root_is.small;
       }) refl refl
       (λ split _. falls_in split op v w _ _ k.later k.fresh (omega (arith, descent_longest w op.root)))
+      (claim.Taken leaf, subst (λ x. ClaimsLeaf v w x (claim.Taken leaf)) is k, refl)
 
   pub claims_not : (by : ℕ) → ClaimsLeaf v w perm (claim.Held by) → Turned op v turn.Held op w
   claims_not by k =
@@ -269,6 +280,7 @@ module _ (op : InsertOp) (v w : View) (perm : List ℕ) (ready : Ready op v) (st
       let begun : begins (leaf_of (grid_under w.settings) w.seen perm) (perm_in op) ≡ true = rw (← is) k.answer.3 in
       stands_still op v w Claiming ready state k.later k.apart k.update.own k.owes refl (seen_more v w k.later) (owes_stay v w k.later k.owes) tt refl (p, k.answer.0)
       (inr (state, record { prefix = leaf_of (grid_under w.settings) w.seen perm; begun = begun; other = record { by = by; is = k.answer.1; other = k.answer.2 }; leaf = k.answer.0 }))
+      (claim.Held by, subst (λ x. ClaimsLeaf v w x (claim.Held by)) is k, state)
 
 full_none : (b : Bool) → IsTrue b → cond b 0 2 ≤ 0
 full_none true h = omega arith
@@ -297,6 +309,7 @@ module _ (op : InsertOp) (v w : View) (page : ℕ) (ready : Ready op v) (state :
         small = omega (arith, d.level_is, seeking.small);
       }) tt refl
       (λ split _. falls_in split op v w _ _ k.later k.fresh (omega (arith, down_less v w page q 0 _ seeking.small d)))
+      (commit.Down q, k, refl)
 
   pub commits_right : (q : ℕ) → CommitsInsert v w page op.op op.id op.vector op.dists.items (commit.Right q) → Turned op v turn.More (record op { state = Committing q }) w
   commits_right q k =
@@ -311,6 +324,7 @@ module _ (op : InsertOp) (v w : View) (page : ℕ) (ready : Ready op v) (state :
         small = omega (arith, d.level_is, seeking.small);
       }) tt refl
       (λ split _. falls_in split op v w _ _ k.later k.fresh (omega (arith, right_less v w page q 0 _ d)))
+      (commit.Right q, k, refl)
 
   pub commits_full : (limit : ℕ) → CommitsInsert v w page op.op op.id op.vector op.dists.items (commit.Full limit) → Turned op v turn.More (record op { state = Unclaiming (ending.Full limit) }) w
   commits_full limit k =
@@ -319,6 +333,7 @@ module _ (op : InsertOp) (v w : View) (page : ℕ) (ready : Ready op v) (state :
       (advances_none op.op (made op) None _ _ v w k.answer.0.update.own (seen_more v w k.later)) (owes_stay v w k.later k.owes)
       (p.shard, rw k.leaf seeking.claimed, full_answered op w limit k.board p.shard p.absent k.answer.2.limit_is k.answer.2.many) tt refl
       (λ split _. falls_in split op v w _ _ k.later k.fresh (omega arith))
+      (commit.Full limit, k, refl)
 
   -- the page is full
   at_page : Later v w → w.leaf ≡ v.leaf → SameUpdate v w → Seeks op w page
@@ -330,6 +345,7 @@ module _ (op : InsertOp) (v w : View) (page : ℕ) (ready : Ready op v) (state :
       (at_page k.later k.leaf k.answer.0.update, k.later.level page seeking.seeks.named ∙ k.answer.1.reached, f)
       (refl, record { page_is = k.page_is; items = k.answer.4.many }, f) refl
       (λ split t. falls_in split op v w _ _ k.later k.fresh (omega (arith, descent_keeps v w page k.later seeking.seeks.named, full_none (w.full page) (k.answer.4.told_full t))))
+      (commit.PageFull, k, ap (λ (b : Bool). cond b (Halving page) (Allotting page)) (sym f))
 
   pub commits_wanting : CommitsInsert v w page op.op op.id op.vector op.dists.items commit.PageFull → is_some w.fresh ≡ false → Turned op v turn.More (record op { state = Allotting page }) w
   commits_wanting k f = goes_on op v w (Committing page) (Allotting page) op.root op.leaf op.post ready state k.later k.apart
@@ -337,6 +353,7 @@ module _ (op : InsertOp) (v w : View) (page : ℕ) (ready : Ready op v) (state :
       (at_page k.later k.leaf k.answer.0.update, k.later.level page seeking.seeks.named ∙ k.answer.1.reached, f)
       (refl, record { page_is = k.page_is; items = k.answer.4.many }, f) refl
       (λ split t. falls_in split op v w _ _ k.later k.fresh (omega (arith, descent_keeps v w page k.later seeking.seeks.named)))
+      (commit.PageFull, k, ap (λ (b : Bool). cond b (Halving page) (Allotting page)) (sym f))
 
   pub commits_crowded : (leaf : Leaf) → op.leaf ≡ Some leaf → CommitsInsert v w page op.op op.id op.vector op.dists.items commit.Crowded
       → Turned op v (turn.Crowded leaf) (record op { state = Splitting; leaf = None }) w
@@ -354,6 +371,7 @@ module _ (op : InsertOp) (v w : View) (page : ℕ) (ready : Ready op v) (state :
         owes = λ owed. rw state (owes_stay v w k.later k.owes owed);
         follows = rw state k.answer.3;
         root_is = subst (λ x. op.root ≡ root_after x Splitting op.post op.root w) (sym state) refl;
+        makes = subst (λ x. Makes x op v (record op { state = Splitting; leaf = None }) w) (sym state) (commit.Crowded, k, refl);
         outcome = (
           record {
             measured = f.measured;
@@ -388,6 +406,7 @@ module _ (op : InsertOp) (v w : View) (page : ℕ) (ready : Ready op v) (state :
         },
       ) tt refl
       (λ split _. falls_in split op v w _ _ k.later k.fresh (omega arith))
+      (commit.Done number, k, refl)
 
 -- a page is allotted
 module _ (op : InsertOp) (v w : View) (page : ℕ) (ready : Ready op v) (state : op.state ≡ Allotting page) where
@@ -400,6 +419,7 @@ module _ (op : InsertOp) (v w : View) (page : ℕ) (ready : Ready op v) (state :
       (seeking_stays op.id op.root op.dists.items op.leaf v w page k.later k.work.leaf.leaf k.work.update lacking.0, k.later.level page lacking.0.seeks.named ∙ lacking.1, k.answer.0)
       (refl, k.answer.0) refl
       (λ split _. inl (budget_allots v w k.later lacking.2 k.answer.0 k.answer.1 k.board.few))
+      (Ok u, k, refl)
 
   pub allots_none : (limit : ℕ) → Allots v w (Err (allot.PagesFull limit)) → Turned op v turn.More (record op { state = Unclaiming (ending.NoPages limit) }) w
   allots_none limit k = goes_on op v w (Allotting page) (Unclaiming (ending.NoPages limit)) op.root op.leaf op.post ready state k.later k.work.apart
@@ -407,12 +427,14 @@ module _ (op : InsertOp) (v w : View) (page : ℕ) (ready : Ready op v) (state :
       (k.work.update.shard ∙ lacking.0.prepared.shard, rw k.work.leaf.leaf lacking.0.claimed, record { right = λ allotted all. (k.answer.1, all k.answer.3); few = k.board.legal.few })
       (ap is_some k.answer.0 ∙ lacking.2, k.answer.2) refl
       (λ split _. falls_in split op v w _ _ k.later k.answer.0 (omega arith))
+      (Err (allot.PagesFull limit), k, refl)
 
   pub allots_memory : Allots v w (Err allot.Memory) → Turned op v turn.More (record op { state = Unclaiming ending.Memory }) w
   allots_memory k = goes_on op v w (Allotting page) (Unclaiming ending.Memory) op.root op.leaf op.post ready state k.later k.work.apart
       (advances_none op.op (made op) None _ _ v w k.work.update.own (seen_more v w k.later)) (owes_stay v w k.later k.owes)
       (k.work.update.shard ∙ lacking.0.prepared.shard, rw k.work.leaf.leaf lacking.0.claimed, memory_answered op w k.board.legal.few) (ap is_some k.answer.0 ∙ lacking.2, k.answer.1) refl
       (λ split _. falls_in split op v w _ _ k.later k.answer.0 (omega arith))
+      (Err allot.Memory, k, refl)
 
 two_full : (b : Bool) → b ≡ false → 2 ≤ cond b 0 2
 two_full true e = cc
@@ -436,6 +458,7 @@ module _ (op : InsertOp) (v w : View) (page : ℕ) (ready : Ready op v) (state :
       (seeking_stays op.id op.root op.dists.items op.leaf v w page k.later k.work.leaf.leaf k.work.update halving.0) refl refl
       (λ split t. falls_in split op v w _ _ k.later k.answer.0
       (omega (arith, descent_keeps v w page k.later halving.0.seeks.named, two_full (v.full page) (k.answer.3 (rw (← k.later.tells_full) t)))))
+      (part.Roomy, k, refl)
 
   pub halves : (key child : ℕ) (p : Post) → posting.Begun p 1 key child → PartsPage v w page (part.Parted key child) → Turned op v turn.More (record op { state = Posting page; post = Some p }) w
   halves key child p b k =
@@ -446,6 +469,7 @@ module _ (op : InsertOp) (v w : View) (page : ℕ) (ready : Ready op v) (state :
       (λ owed h f x o. rw (b.child_is, b.waiting_is) (one_more (v.owes x) (x == child) (owed x) (h (excused_before v w k.later f) x) (subst (λ (g : ℕ → Bool). IsTrue (g x)) a.1 o)))
       (seeking_stays op.id op.root op.dists.items op.leaf v w page k.later k.work.leaf.leaf k.work.update halving.0, begun_ready p 1 key child w b c (omega arith)) refl refl
       (λ split _. inl (budget_uses v w k.later halving.2 a.0))
+      (part.Parted key child, k, (refl, p, refl, b))
 
 -- the leaf is released
 module _ (op : InsertOp) (v w : View) (e : Ending) (ready : Ready op v) (state : op.state ≡ Unclaiming e) where
@@ -457,6 +481,7 @@ module _ (op : InsertOp) (v w : View) (e : Ending) (ready : Ready op v) (state :
       (advances_none op.op (made op) _ _ _ v w k.update.own (ends_stay (asked op) op.op v w k.later e ended.2)) (owes_stay v w k.later k.owes)
       (record { shard = k.update.shard ∙ ended.0; leaf = k.leaf }, answered_stays (asked op) op.op v w e k.later ended.2) refl refl
       (λ split _. falls_in split op v w _ _ k.later k.fresh (omega arith))
+      (k, refl)
 
 -- and the shard
 module _ (op : InsertOp) (v w : View) (e : Ending) (ready : Ready op v) (state : op.state ≡ Releasing e) where
@@ -475,6 +500,7 @@ module _ (op : InsertOp) (v w : View) (e : Ending) (ready : Ready op v) (state :
     owes = λ owed. rw state (owes_stay v w k.later k.owes owed);
     follows = rw state refl;
     root_is = subst (λ x. op.root ≡ root_after x (Over e) op.post op.root w) (sym state) refl;
+    makes = subst (λ x. Makes x op v (record op { state = Over e }) w) (sym state) (k, refl);
     outcome = (k.shard, k.leaf.leaf ∙ last.0.leaf, e, refl, refl, answered_stays (asked op) op.op v w e k.later last.1);
   }
 
@@ -502,7 +528,7 @@ module _ (op : InsertOp) (v w : View) (page : ℕ) (p q : Post) (ready : Ready o
   posts_on t = goes_on op v w (Posting page) (Posting page) op.root op.leaf (Some q) ready state t.later t.work.apart
       (advances_none op.op (made op) None _ _ v w t.work.update.own (seen_more v w t.later)) (λ owed h. t.owes owed (rw under at h))
       (stays t.later t.work op.root (root_keeps v w op.root t.later inside.0.prepared.root_is), t.outcome.0) refl refl
-      (λ split f. rw under (combine split (t.outcome.1 f)))
+      (λ split f. rw under (combine split (t.outcome.1 f))) (p, q, More, under, t, (refl, refl, refl))
     where
       combine : (split : ℕ) → Falls v (posting.left p v) w (posting.left q w)
           → Falls v (splits_left op v * round split + (split + 5 + 3 * descent v page + posting.left p v)) w (splits_left op w * round split + (split + 5 + 3 * descent w page + posting.left q w))
@@ -512,23 +538,24 @@ module _ (op : InsertOp) (v w : View) (page : ℕ) (p q : Post) (ready : Ready o
           inr (h.0, omega (arith, m, h.1, descent_keeps v w page t.later inside.0.seeks.named))
 
   back : Later v w → SameWork v w → IfSome q.root (IsRoot w) → q.root ≡ posting.root_after p.state p.root w → budget w ≤ budget v → ((owed : ℕ → Bool) → OwesOnly owed (posting.pending p) v → OwesOnly owed (λ x. false) w) → (post : Option Post)
+      → Makes (Posting page) op v (record op { state = Committing page; root = unwrap_or q.root op.root; post = post }) w
       → Turned op v turn.More (record op { state = Committing page; root = unwrap_or q.root op.root; post = post }) w
-  back l u r latest b owes post = goes_on op v w (Posting page) (Committing page) (unwrap_or q.root op.root) op.leaf post ready state l u.apart
+  back l u r latest b owes post makes = goes_on op v w (Posting page) (Committing page) (unwrap_or q.root op.root) op.leaf post ready state l u.apart
       (advances_none op.op (made op) None _ _ v w u.update.own (seen_more v w l)) (λ owed h. owes owed (rw under at h))
       (stays l u (unwrap_or q.root op.root) (some_root w q.root op.root r (root_keeps v w op.root l inside.0.prepared.root_is))) refl
       (ap (λ x. unwrap_or x op.root) latest ∙ ap (λ x. root_of_post x op.root w) (sym under))
       (λ split _.
       let m : splits_left op w * round split ≤ splits_left op v * round split = mul-le-mul_right (round split) (splits_fall op v w l) in
-      inr (b, omega (arith, m, descent_keeps v w page l inside.0.seeks.named)))
+      inr (b, omega (arith, m, descent_keeps v w page l inside.0.seeks.named))) makes
 
   pub posted : (post : Option Post) → posting.Turned p v Done q w → Turned op v turn.More (record op { state = Committing page; root = unwrap_or q.root op.root; post = post }) w
-  posted post t = back t.later t.work t.root_is t.latest t.outcome.1 t.owes post
+  posted post t = back t.later t.work t.root_is t.latest t.outcome.1 t.owes post (p, q, Done, under, t, (refl, refl))
 
   pub posted_left : (limit : ℕ) (post : Option Post) → posting.Turned p v (Left limit) q w → Turned op v turn.More (record op { state = Committing page; root = unwrap_or q.root op.root; post = post }) w
-  posted_left limit post t = back t.later t.work t.root_is t.latest t.outcome.5 t.owes post
+  posted_left limit post t = back t.later t.work t.root_is t.latest t.outcome.5 t.owes post (p, q, Left limit, under, t, (refl, refl))
 
   pub posted_memory : (post : Option Post) → posting.Turned p v Memory q w → Turned op v turn.More (record op { state = Committing page; root = unwrap_or q.root op.root; post = post }) w
-  posted_memory post t = back t.later t.work t.root_is t.latest t.outcome.2 t.owes post
+  posted_memory post t = back t.later t.work t.root_is t.latest t.outcome.2 t.owes post (p, q, Memory, under, t, (refl, refl))
 
 -- what is kept from the first section to the last
 pub since_kept : (own : List Entered) (from : ℕ) (owed : ℕ → Bool) (old new : InsertOp) (v w : View) (answer : Turn) → Turned old v answer new w → Since own from owed old v → Since own from owed new w

@@ -1,5 +1,5 @@
 -- A delete between its sections, and what a section of it does.
-use Rattle.std.specs.Prelude.{◌≡◌, ◌≤◌, ◌+◌, ◌++◌, [], ℕ, List, Option, Some, None, true, false, IsTrue, length, ◌⊎◌}
+use Rattle.std.specs.Prelude.{◌≡◌, ◌≤◌, ◌+◌, ◌++◌, [], ℕ, List, Option, Some, None, true, false, IsTrue, Result, Ok, Err, length, ◌⊎◌}
 use Rattle.mi_base.specs.declared.records.LogEvent.{LogEvent}
 use Rattle.mi_base.specs.declared.records.Op.{Op}
 use Rattle.mi_base.specs.declared.records.Op.TheVariants.{Delete}
@@ -8,8 +8,18 @@ use Rattle.mi_base.specs.declared.records.Update.TheVariants as update
 use Rattle.mi_base.specs.History.{Entered}
 use Rattle.mi_base.specs.Permutations.{permutation_of}
 use Rattle.mi_world.specs.declared.answers.Record.{Record}
-use Rattle.mi_world.specs.Claims.{holds_leaf_of}
-use Rattle.mi_world.specs.Pages.{delete_key}
+use Rattle.mi_tree.specs.declared.answers.LeafClaim.{LeafClaim}
+use Rattle.mi_tree.specs.declared.answers.LeafClaim.TheVariants as claim
+use Rattle.mi_tree.specs.declared.answers.Look.{Look}
+use Rattle.mi_tree.specs.declared.answers.ReserveRefusal.{ReserveRefusal}
+use Rattle.mi_tree.specs.declared.answers.ReserveRefusal.TheVariants as reserve
+use Rattle.mi_world.specs.declared.answers.Commit.{Commit}
+use Rattle.mi_world.specs.declared.answers.Commit.TheVariants as commit
+use Rattle.mi_world.specs.declared.answers.ShardClaim.{ShardClaim}
+use Rattle.mi_world.specs.declared.answers.ShardClaim.TheVariants as shard_claim
+use Rattle.mi_world.specs.Boards.{Looks, Reserves}
+use Rattle.mi_world.specs.Claims.{ClaimsLeaf, ClaimsShard, ReleasesLeaf, ReleasesShard, holds_leaf_of}
+use Rattle.mi_world.specs.Pages.{CommitsDelete, delete_key}
 use Rattle.mi_world.specs.View.{View, Agrees, Later, SameApart, shard_of}
 use Rattle.mi_blink.specs.declared.turns.Turn.{Turn}
 use Rattle.mi_blink.specs.declared.turns.Turn.TheVariants as turn
@@ -157,6 +167,49 @@ Follows (Unclaiming e) (Releasing f) root = f ≡ e
 Follows (Releasing e) (Over f) root = f ≡ e
 Follows old new root = ⊥
 
+-- where the answer to the claim of the shard leads, and the record in hand then
+abbrev pub after_shard : ShardClaim → DeleteState
+after_shard shard_claim.Held = Begin
+after_shard (shard_claim.Taken (Some r)) = Reserving
+after_shard (shard_claim.Taken None) = Looking
+
+abbrev pub kept_after : ShardClaim → Option Record → Option Record
+kept_after shard_claim.Held kept = kept
+kept_after (shard_claim.Taken (Some r)) kept = Some r
+kept_after (shard_claim.Taken None) kept = kept
+
+-- where that to the reservation leads
+abbrev pub after_reserve : Result Look ReserveRefusal → DeleteState
+after_reserve (Ok look) = Claiming
+after_reserve (Err (reserve.Full limit)) = Releasing (ending.Full limit)
+after_reserve (Err reserve.Memory) = Releasing ending.Memory
+
+-- where that to the claim of the leaf leads: the descent begins at the root in hand
+abbrev pub after_claim : LeafClaim → ℕ → DeleteState
+after_claim (claim.Taken leaf) root = Committing root
+after_claim (claim.Held by) root = Claiming
+
+-- where that to a commit leads; no leaf is too full for it, and no page
+abbrev pub AfterCommit : Commit → DeleteOp → Type 0
+AfterCommit (commit.Down p) new = new.state ≡ Committing p
+AfterCommit (commit.Right p) new = new.state ≡ Committing p
+AfterCommit (commit.Full limit) new = new.state ≡ Unclaiming (ending.Full limit)
+AfterCommit commit.Crowded new = ⊥
+AfterCommit commit.PageFull new = ⊥
+AfterCommit (commit.Done number) new = new.state ≡ Unclaiming (ending.Removed number)
+
+-- the section that each state makes of the actor, and where its answer leads
+abbrev pub Makes : DeleteState → DeleteOp → View → DeleteOp → View → Type 0
+Makes Begin old v new w =
+    (answer : ShardClaim) × ClaimsShard v w old.id answer × (new.state ≡ after_shard answer) × (new.kept ≡ kept_after answer old.kept)
+Makes Looking old v new w = (look : Look) × Looks v w look × (new.state ≡ Releasing (ending.Absent look.at))
+Makes Reserving old v new w = (answer : Result Look ReserveRefusal) × Reserves v w answer × (new.state ≡ after_reserve answer)
+Makes Claiming old v new w = (answer : LeafClaim) × ClaimsLeaf v w (perm_in old) answer × (new.state ≡ after_claim answer old.root)
+Makes (Committing page) old v new w = (answer : Commit) × CommitsDelete v w page old.op old.id answer × AfterCommit answer new
+Makes (Unclaiming e) old v new w = ReleasesLeaf v w × (new.state ≡ Releasing e)
+Makes (Releasing e) old v new w = ReleasesShard v w × (new.state ≡ Over e)
+Makes (Over e) old v new w = ⊥
+
 -- what each answer says
 abbrev pub Outcome : DeleteOp → View → Turn → DeleteOp → View → Type 0
 Outcome old v turn.More new w = Ready new w × Falls v (left old v) w (left new w)
@@ -175,6 +228,7 @@ pub record Turned (old : DeleteOp) (v : View) (answer : Turn) (new : DeleteOp) (
   pub advances : Advances old.op (made old) (number_in old) (number_in new) (since_in old v) (since_in new w) v w
   pub follows : Follows old.state new.state new.root
   pub root_is : new.root ≡ root_after old.state new.state old.root w
+  pub makes : Makes old.state old v new w
   pub outcome : Outcome old v answer new w
 
 -- What is kept from the first section to the last, whatever the actor's own updates and the events seen were at the first: its own updates

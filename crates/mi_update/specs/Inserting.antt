@@ -1,5 +1,5 @@
 -- An insert between its sections, and what a section of it does.
-use Rattle.std.specs.Prelude.{unwrap_or, is_some, ◌≡◌, ◌≤◌, ◌+◌, ◌-◌, ◌*◌, ◌++◌, ℕ, ℤ, List, Option, Some, None, Bool, true, false, IsTrue, IsSome, length, cond, ◌⊎◌}
+use Rattle.std.specs.Prelude.{unwrap_or, is_some, ◌≡◌, ◌≤◌, ◌+◌, ◌-◌, ◌*◌, ◌++◌, ℕ, ℤ, List, Option, Some, None, Bool, true, false, IsTrue, IsSome, Result, Ok, Err, length, cond, ◌⊎◌}
 use Rattle.mi_base.specs.declared.records.LogEvent.{LogEvent}
 use Rattle.mi_base.specs.declared.records.Op.{Op}
 use Rattle.mi_base.specs.declared.records.Op.TheVariants.{Insert}
@@ -10,11 +10,27 @@ use Rattle.mi_base.specs.History.{Entered, updates_of}
 use Rattle.mi_base.specs.Permutations.{distances, permutation_of}
 use Rattle.mi_tree.specs.declared.outcomes.Leaf.{Leaf}
 use Rattle.mi_tree.specs.Cells.{depth}
-use Rattle.mi_world.specs.Claims.{holds_leaf_of}
-use Rattle.mi_world.specs.Pages.{MaySeek, is_crowded_leaf}
+use Rattle.mi_tree.specs.declared.answers.AllotRefusal.{AllotRefusal}
+use Rattle.mi_tree.specs.declared.answers.AllotRefusal.TheVariants as allot
+use Rattle.mi_tree.specs.declared.answers.LeafClaim.{LeafClaim}
+use Rattle.mi_tree.specs.declared.answers.LeafClaim.TheVariants as claim
+use Rattle.mi_tree.specs.declared.answers.Look.{Look}
+use Rattle.mi_tree.specs.declared.answers.ReserveRefusal.{ReserveRefusal}
+use Rattle.mi_tree.specs.declared.answers.ReserveRefusal.TheVariants as reserve
+use Rattle.mi_world.specs.declared.answers.Commit.{Commit}
+use Rattle.mi_world.specs.declared.answers.Commit.TheVariants as commit
+use Rattle.mi_world.specs.declared.answers.Parted.{Parted}
+use Rattle.mi_world.specs.declared.answers.Parted.TheVariants as part
+use Rattle.mi_world.specs.declared.answers.ShardClaim.{ShardClaim}
+use Rattle.mi_world.specs.declared.answers.ShardClaim.TheVariants as shard_claim
+use Rattle.mi_world.specs.Boards.{Allots, Looks, Reserves}
+use Rattle.mi_world.specs.Claims.{ClaimsLeaf, ClaimsShard, ReleasesLeaf, ReleasesShard, holds_leaf_of}
+use Rattle.mi_world.specs.Pages.{CommitsInsert, MaySeek, PartsPage, is_crowded_leaf}
 use Rattle.mi_tree.specs.Placing.{grid_under}
 use Rattle.mi_world.specs.View.{View, Later, SameApart, shard_of}
 use Rattle.mi_blink.specs.declared.post.Post.{Post}
+use Rattle.mi_blink.specs.declared.post.PostTurn.{PostTurn}
+use Rattle.mi_blink.specs.declared.post.PostTurn.TheVariants as post_turn
 use Rattle.mi_blink.specs.declared.turns.Turn.{Turn}
 use Rattle.mi_blink.specs.declared.turns.Turn.TheVariants as turn
 use Rattle.mi_blink.specs.declared.turns.Why.{Why}
@@ -245,6 +261,72 @@ Follows (Unclaiming e) (Releasing f) root w = f ≡ e
 Follows (Releasing e) (Over f) root w = f ≡ e
 Follows old new root w = ⊥
 
+-- where the answer to the claim of the shard leads
+abbrev pub after_shard : ShardClaim → InsertState
+after_shard shard_claim.Held = Begin
+after_shard (shard_claim.Taken (Some r)) = Looking
+after_shard (shard_claim.Taken None) = Reserving
+
+-- where that to the reservation leads
+abbrev pub after_reserve : Result Look ReserveRefusal → InsertState
+after_reserve (Ok look) = Claiming
+after_reserve (Err (reserve.Full limit)) = Releasing (ending.Full limit)
+after_reserve (Err reserve.Memory) = Releasing ending.Memory
+
+-- where that to the claim of the leaf leads: the descent begins at the root in hand
+abbrev pub after_claim : LeafClaim → ℕ → InsertState
+after_claim (claim.Taken leaf) root = Committing root
+after_claim (claim.Held by) root = Claiming
+
+-- where that to a commit leads: a full page has to be halved first, for which a fresh page is wanted
+abbrev pub after_commit : Commit → ℕ → View → InsertState
+after_commit (commit.Down p) page w = Committing p
+after_commit (commit.Right p) page w = Committing p
+after_commit (commit.Full limit) page w = Unclaiming (ending.Full limit)
+after_commit commit.Crowded page w = Splitting
+after_commit commit.PageFull page w = cond (is_some w.fresh) (Halving page) (Allotting page)
+after_commit (commit.Done number) page w = Unclaiming (ending.Stored number)
+
+-- a page was allotted, or the insert ends for want of it
+abbrev pub after_allot : Result (Unit {0}) AllotRefusal → ℕ → InsertState
+after_allot (Ok _) page = Halving page
+after_allot (Err (allot.PagesFull limit)) page = Unclaiming (ending.NoPages limit)
+after_allot (Err allot.Memory) page = Unclaiming ending.Memory
+
+-- the page was halved, and the route of its upper half is posted before the insert goes on there; or it wasn't full any more
+abbrev pub AfterHalf : Parted → ℕ → InsertOp → Type 0
+AfterHalf (part.Parted key child) page new = (new.state ≡ Posting page) × (post : Post) × (new.post ≡ Some post) × posting.Begun post 1 key child
+AfterHalf part.Roomy page new = new.state ≡ Committing page
+
+-- the insert goes on at its page, and later descents begin at the root of the post's latest look
+abbrev pub GoesBack : ℕ → Post → InsertOp → InsertOp → Type 0
+GoesBack page post old new = (new.state ≡ Committing page) × (new.root ≡ unwrap_or post.root old.root)
+
+-- the post goes on, or the insert does
+abbrev pub AfterPost : PostTurn → ℕ → Post → InsertOp → InsertOp → Type 0
+AfterPost post_turn.More page post old new = (new.state ≡ Posting page) × (new.post ≡ Some post) × (new.root ≡ old.root)
+AfterPost post_turn.Done page post old new = GoesBack page post old new
+AfterPost (post_turn.Left limit) page post old new = GoesBack page post old new
+AfterPost post_turn.Memory page post old new = GoesBack page post old new
+
+-- the section that each state makes of the actor, and where its answer leads
+abbrev pub Makes : InsertState → InsertOp → View → InsertOp → View → Type 0
+Makes Begin old v new w = (answer : ShardClaim) × ClaimsShard v w old.id answer × (new.state ≡ after_shard answer)
+Makes Looking old v new w = (look : Look) × Looks v w look × (new.state ≡ Releasing (ending.Present look.at))
+Makes Reserving old v new w = (answer : Result Look ReserveRefusal) × Reserves v w answer × (new.state ≡ after_reserve answer)
+Makes Claiming old v new w = (answer : LeafClaim) × ClaimsLeaf v w (perm_in old) answer × (new.state ≡ after_claim answer old.root)
+Makes (Committing page) old v new w =
+    (answer : Commit) × CommitsInsert v w page old.op old.id old.vector old.dists.items answer × (new.state ≡ after_commit answer page w)
+Makes Splitting old v new w = ⊥
+Makes (Allotting page) old v new w = (answer : Result (Unit {0}) AllotRefusal) × Allots v w answer × (new.state ≡ after_allot answer page)
+Makes (Halving page) old v new w = (answer : Parted) × PartsPage v w page answer × AfterHalf answer page new
+Makes (Posting page) old v new w =
+    (before : Post) × (after : Post) × (answer : PostTurn) × (old.post ≡ Some before) × posting.Turned before v answer after w
+    × AfterPost answer page after old new
+Makes (Unclaiming e) old v new w = ReleasesLeaf v w × (new.state ≡ Releasing e)
+Makes (Releasing e) old v new w = ReleasesShard v w × (new.state ≡ Over e)
+Makes (Over e) old v new w = ⊥
+
 -- the claimed leaf is to be split, and this is it
 pub record Crowds (op : InsertOp) (leaf : Leaf) (w : View) : Type 0 where
   pub leaf_is : w.leaf ≡ Some leaf.prefix
@@ -272,6 +354,7 @@ pub record Turned (old : InsertOp) (v : View) (answer : Turn) (new : InsertOp) (
   pub owes : (owed : ℕ → Bool) → OwesOnly owed (pending_in old.state old.post) v → OwesOnly owed (pending_in new.state new.post) w
   pub follows : Follows old.state new.state new.root w
   pub root_is : new.root ≡ root_after old.state new.state old.post old.root w
+  pub makes : Makes old.state old v new w
   pub outcome : Outcome old v answer new w
 
 -- What is kept from the first section to the last, whatever the actor's own updates, the events seen and the routes owed were at the
