@@ -1,5 +1,5 @@
 -- The rows that a pass keeps of actors that were absorbed.
-use Rattle.std.proofs.Common.{◌≡◌, ℕ, ◌+◌, List, [], ◌∷◌, ◌++◌, drop, length, ◌<◌, Bool, refl, sym, ap, ◌∙◌, subst, arith}
+use Rattle.std.proofs.Common.{◌≡◌, ℕ, List, [], ◌∷◌, ◌++◌, drop, sym, ap, subst}
 use Rattle.mi_base.specs.Configuration.{Configuration}
 use Rattle.mi_core.specs.Events.{ended}
 use Rattle.mi_latch.specs.Ends.{over}

@@ -1,40 +1,37 @@
 -- The core of a hall that is closed.
-use Rattle.std.proofs.Common.{◌≡◌, ◌≢◌, ◌⊎◌, ⊎_elim, inl, inr, ℕ, zero, suc, ◌+◌, ◌<◌, ◌≤◌, ◌==◌, ◌||◌, max, List, [], ◌∷◌, ◌++◌, length, map, take, drop, get_or, set, Bool, true, false, refl, sym, ap, ◌∙◌, subst, arith, Option, Some, None, eqb-true, eq-eqb, length-append, length-set, get_or-set_same, get_or-set_other, ext_get_or}
+use Rattle.std.proofs.Common.{◌≡◌, ◌⊎◌, ⊎_elim, inl, inr, ℕ, zero, suc, ◌+◌, ◌<◌, ◌≤◌, max, List, [], ◌∷◌, ◌++◌, length, map, take, drop, get_or, set, refl, sym, ap, ◌∙◌, subst, arith, Option, Some, None, length-append, length-set, get_or-set_same, get_or-set_other, ext_get_or}
 use mathlib.Core.Logic.{dite}
 use native.Mathlib.Decide.{ℕ_discrete}
 use Rattle.std.specs.Prelude.{slice_get, slice_range}
 use Rattle.std.proofs.lemmas.List.Edits.{length-between}
-use Rattle.std.specs.List.{AllByRecursion, list_any}
-use Rattle.std.proofs.lemmas.Bool.{cases_eq, false≢true}
+use Rattle.std.specs.List.{AllByRecursion}
 use Rattle.std.proofs.lemmas.List.{length-map}
-use Rattle.std.proofs.lemmas.Option.{none-some, same_Some, slice_get-get_or, slice_get_within}
+use Rattle.std.proofs.lemmas.Option.{same_Some, slice_get-get_or, slice_get_within}
 use Rattle.mi_base.specs.Configuration.{Configuration}
 use Rattle.mi_base.specs.declared.records.LogEvent.{LogEvent}
-use Rattle.mi_base.specs.Prefixes.{has}
 use Rattle.mi_board.specs.Boards.{BoardState}
 use Rattle.mi_core.specs.Actors.{made_by}
 use Rattle.mi_core.specs.Events.{first_actor}
 use Rattle.mi_core.specs.State.{State}
-use Rattle.mi_entries.specs.Actors.{Actor, SplitWork}
-use Rattle.mi_entries.specs.Records.{Rows, Shard, held_by, no_shard, shard_at}
+use Rattle.mi_entries.specs.Actors.{Actor}
+use Rattle.mi_entries.specs.Records.{Shard, held_by, shard_at}
 use Rattle.mi_latch.specs.declared.slots.Slot.{Slot}
-use Rattle.mi_latch.specs.declared.slots.Slot.TheVariants.{OfBoard, OfPage, OfShard, Vacant}
-use Rattle.mi_latch.specs.Ends.{IsBare, Leaves}
-use Rattle.mi_latch.specs.Layout.{at, cells, of_shard, slot_count, slot_of}
+use Rattle.mi_latch.specs.declared.slots.Slot.TheVariants.{OfBoard, Vacant}
+use Rattle.mi_latch.specs.Ends.{Leaves}
+use Rattle.mi_latch.specs.Layout.{at, cells, of_shard, slot_of}
 use Rattle.mi_latch.specs.Takes.{IsShard}
-use Rattle.mi_latch.specs.Shows.{Covers, Has, HasKey, In, stands, stands_if}
-use Rattle.mi_latch.specs.Views.{Fits, Mine, Seated, Sight}
+use Rattle.mi_latch.specs.Shows.{Has, HasKey}
+use Rattle.mi_latch.specs.Views.{Fits, Mine, Sight}
 use Rattle.mi_page.specs.Nodes.{Node}
 use Rattle.mi_solo.specs.declared.cores.Core.{Core}
 use Rattle.mi_solo.specs.declared.rows.ActorRow.{ActorRow}
 use Rattle.mi_solo.specs.States.{actor_of, actors_of, state_of}
-use Rattle.mi_world.specs.View.{Absorbed, View}
 use Rattle.mi_hall.specs.declared.absorbed.Gone.{Gone}
-use Rattle.mi_hall.specs.Absorbed.{AreGone, HasGone, most, placed}
-use Rattle.mi_hall.specs.Closing.{IsLast, Stands, page_in}
+use Rattle.mi_hall.specs.Absorbed.{AreGone, most, placed}
+use Rattle.mi_hall.specs.Closing.{page_in}
 use Rattle.mi_hall.specs.Families.{board_in}
-use Rattle.mi_hall.specs.Passes.{IsPass, row_actor}
-use Rattle.mi_hall.specs.Seats.{rows_in, seat_view}
+use Rattle.mi_hall.specs.Passes.{row_actor}
+use Rattle.mi_hall.specs.Seats.{rows_in}
 
 -- how many actors there are
 pub most_up : (n : ℕ) (gone : List Gone) → n ≤ most n gone

@@ -1,10 +1,10 @@
 -- A pass that closes its hall.
-use Rattle.std.proofs.Common.{◌≡◌, ◌≢◌, ◌⊎◌, ⊎_elim, inl, inr, ℕ, ◌+◌, ◌-◌, ◌<◌, ◌≤◌, ◌==◌, ◌||◌, max, List, [], ◌∷◌, ◌++◌, length, map, take, drop, get_or, set, Bool, true, false, refl, sym, ap, ◌∙◌, subst, arith, Option, Some, None, eqb-true, eq-eqb, length-set, get_or-set_same, get_or-set_other}
+use Rattle.std.proofs.Common.{◌≡◌, ◌⊎◌, ⊎_elim, inl, inr, ℕ, ◌+◌, ◌-◌, ◌<◌, ◌==◌, ◌||◌, max, List, [], ◌∷◌, ◌++◌, length, map, take, drop, get_or, set, Bool, true, false, refl, sym, ap, ◌∙◌, subst, arith, Option, Some, None, eqb-true, eq-eqb, length-set, get_or-set_same, get_or-set_other}
 use mathlib.Core.Logic.{dite}
 use native.Mathlib.Decide.{ℕ_discrete}
 use Rattle.std.specs.Prelude.{slice_get}
-use Rattle.std.specs.List.{AllByRecursion, list_any}
-use Rattle.std.proofs.lemmas.Bool.{cases_eq, false≢true}
+use Rattle.std.specs.List.{list_any}
+use Rattle.std.proofs.lemmas.Bool.{false≢true}
 use Rattle.std.proofs.lemmas.Option.{none-some, same_Some, slice_get-get_or, slice_get_within}
 use Rattle.mi_base.specs.Configuration.{Configuration}
 use Rattle.mi_base.specs.Prefixes.{has}
@@ -22,20 +22,20 @@ use Rattle.mi_latch.specs.Views.{Fits, IsOne, Mine, Seated, Sight}
 use Rattle.mi_latch.proofs.EndingDoings.{left_bare, left_free}
 use Rattle.mi_solo.specs.declared.cores.Core.{Core}
 use Rattle.mi_solo.specs.declared.rows.ActorRow.{ActorRow}
-use Rattle.mi_solo.specs.Solos.{SoloState, view_of}
+use Rattle.mi_solo.specs.Solos.{SoloState}
 use Rattle.mi_solo.specs.States.{IsGoing, actor_in, actor_of, actors_of, state_of}
 use Rattle.mi_solo.specs.Viewing.{shown_to}
 use Rattle.mi_world.specs.Families.{ClaimsNothing}
 use Rattle.mi_world.specs.View.{Absorbed, View}
 use Rattle.mi_hall.specs.declared.absorbed.Gone.{Gone}
-use Rattle.mi_hall.specs.Absorbed.{AreGone, HasGone, most, placed}
+use Rattle.mi_hall.specs.Absorbed.{HasGone, most, placed}
 use Rattle.mi_hall.specs.Closing.{Closes, IsLast, SameActor, Stands, page_in}
 use Rattle.mi_hall.specs.Families.{board_in}
 use Rattle.mi_hall.specs.Knowledge.{Knowledge, view_by}
-use Rattle.mi_hall.specs.Passes.{IsPass, row_actor}
+use Rattle.mi_hall.specs.Passes.{IsPass}
 use Rattle.mi_hall.specs.Seats.{knowledge, rows_in, seat_view}
 use Rattle.mi_hall.proofs.AbsorbPasses.{no_sweep, none_out}
-use Rattle.mi_hall.proofs.ClosingLemmas.{IsFor, actors_are, core_is, left_cells, length-placed, most_few, most_has, most_up, most_within, placed_for, row_for}
+use Rattle.mi_hall.proofs.ClosingLemmas.{IsFor, actors_are, core_is, left_cells, length-placed, most_few, most_has, most_up, placed_for, row_for}
 use Rattle.mi_solo.proofs.BoardTurns.{shown_bare}
 use Rattle.mi_hall.proofs.SeatLemmas.{seat_is, seat_knows}
 

@@ -1,5 +1,5 @@
 -- A commit by a pass: the board is taken while the page and the rows of the shard are in hand, its give is the event, and the page goes back after it.
-use Rattle.std.proofs.Common.{◌≡◌, ⊎_elim, inl, inr, ℕ, ◌+◌, ◌<◌, List, [], ◌∷◌, ◌++◌, length, Bool, true, false, cond, refl, sym, ap, ◌∙◌, subst, arith, Option, Some, None, eq-eqb}
+use Rattle.std.proofs.Common.{◌≡◌, ⊎_elim, inl, inr, ℕ, ◌+◌, ◌<◌, List, [], ◌∷◌, ◌++◌, length, Bool, cond, refl, sym, ap, ◌∙◌, subst, arith, Some, eq-eqb}
 use Rattle.std.specs.Prelude.{slice_get}
 use Rattle.std.proofs.lemmas.Option.{same_Some}
 use Rattle.atomic_table.specs.Table.{rest}
@@ -13,7 +13,7 @@ use Rattle.mi_core.specs.Events.Event.{visit}
 use Rattle.mi_core.specs.Kept.{Kept}
 use Rattle.mi_core.specs.State.{State, node_at}
 use Rattle.mi_core.proofs.KeptEvents.{each_keeps}
-use Rattle.mi_entries.specs.Actors.{Actor, Pin}
+use Rattle.mi_entries.specs.Actors.{Actor}
 use Rattle.mi_entries.specs.Records.{Rows, no_shard, shard_at}
 use Rattle.mi_latch.specs.declared.slots.Slot.{Slot}
 use Rattle.mi_latch.specs.declared.slots.Slot.TheVariants.{OfBoard, OfPage, OfShard, Vacant}
@@ -24,7 +24,7 @@ use Rattle.mi_latch.specs.Naming.{names_of}
 use Rattle.mi_latch.specs.PageSteps.{items_for}
 use Rattle.mi_latch.specs.Shows.{Has, HasKey, Returns}
 use Rattle.mi_latch.specs.Takes.{Finds, see_none, took}
-use Rattle.mi_latch.specs.Views.{Doing, HoldsLast, Mine, Seated, Sight, now}
+use Rattle.mi_latch.specs.Views.{Doing, HoldsLast, Mine, Seated, Sight}
 use Rattle.mi_latch.proofs.BoardMays.{page_found, rows_found}
 use Rattle.mi_latch.proofs.BoardReturns.{returned_commit}
 use Rattle.mi_latch.proofs.BoardTold.{found_board}
@@ -38,7 +38,7 @@ use Rattle.mi_solo.specs.States.{actor_of}
 use Rattle.mi_tree.specs.Legal.{cells_of}
 use Rattle.mi_world.specs.View.{View}
 use Rattle.mi_solo.specs.CommitRows.{IsAtHand}
-use Rattle.mi_hall.specs.CommitRows.{giving_beside, kept_out}
+use Rattle.mi_hall.specs.CommitRows.{giving_beside}
 use Rattle.mi_hall.specs.Passes.{AreNear, HasCells, HasOut, IsPass, row_actor, turning}
 use Rattle.mi_hall.specs.Places.{BothMake, HasRows, IsBacked, gives_both}
 use Rattle.mi_hall.specs.Seats.{rows_out, seat_view}

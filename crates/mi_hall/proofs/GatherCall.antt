@@ -1,10 +1,9 @@
 -- A gather of a pass.
-use Rattle.std.proofs.Common.{◌≡◌, ℕ, ◌+◌, ◌-◌, ◌≤◌, length, Bool, IsTrue, refl, sym, ap, ◌∙◌, subst, arith, Option, Some, None, Result, Ok, Err}
+use Rattle.std.proofs.Common.{◌≡◌, ℕ, ◌+◌, ◌-◌, ◌≤◌, Bool, IsTrue, refl, sym, ap, ◌∙◌, subst, arith, Option, Some, None, Result, Ok, Err}
 use Rattle.std.proofs.lemmas.Option.{none-some, same_Some}
 use Rattle.atomic_table.specs.Seated.{TableId}
 use Rattle.atomic_table.specs.Table.{rest}
 use Rattle.mi_base.specs.Configuration.{Configuration}
-use Rattle.mi_base.specs.Prefixes.{all_below}
 use Rattle.mi_base.specs.declared.refusals.NoMemory.{NoMemory}
 use Rattle.mi_core.specs.Events.{leaf_or, with_split_at}
 use Rattle.mi_core.specs.Events.Event.{gather, start}
@@ -25,17 +24,16 @@ use Rattle.mi_page.specs.Nodes.{Node}
 use Rattle.mi_solo.specs.declared.rows.ActorRow.{ActorRow}
 use Rattle.mi_solo.specs.Seeking.{EndsAfter, PointsDown, PointsRight, ReadsOn}
 use Rattle.mi_solo.specs.States.{split_of}
-use Rattle.mi_solo.specs.WorkRows.{work_of}
 use Rattle.mi_solo.proofs.DescentLemmas.{shows_page}
+use Rattle.mi_solo.proofs.GatherRows.{row_claims}
 use Rattle.mi_solo.proofs.GatherEvents.{leaf_is, mark_is}
-use Rattle.mi_solo.proofs.KeyLemmas.{claim_fits}
 use Rattle.mi_solo.proofs.MarkLemmas.{end_is}
 use Rattle.mi_world.specs.declared.answers.Visit.{Visit}
 use Rattle.mi_world.specs.declared.answers.Visit.TheVariants.{Down, Right, Read}
 use Rattle.mi_world.specs.LeafKeys.{greatest_key}
 use Rattle.mi_world.specs.Splits.{Gathers, MayGather, gather_key, last_key}
 use Rattle.mi_world.specs.View.{View, prefix_or}
-use Rattle.mi_hall.specs.GatherRows.{GathersMore, GathersRow, IsClaiming, StartsRow, row_work}
+use Rattle.mi_solo.specs.GatherRows.{GathersMore, GathersRow, IsClaiming, StartsRow, row_work}
 use Rattle.mi_hall.specs.Knowledge.{is_named}
 use Rattle.mi_hall.specs.Passes.{IsPass, PassState, row_actor, turning}
 use Rattle.mi_hall.specs.Places.{IsBacked, PageMakes}
@@ -77,15 +75,7 @@ module _ (settings : Configuration) (old m : Seated) (page : ℕ) (had : Node) (
   claimed = may.leaf_is
 
   pub gather_claims : IsClaiming settings row
-  gather_claims =
-      let fits = claim_fits f.core f.held.kept old.0.actor r back.fits.part may.leaf claimed in
-      record {
-        leaf = may.leaf;
-        is = sym row_claim ∙ claimed;
-        depth = subst (λ (s : Configuration). length may.leaf ≤ s.levels) f.held.same fits.0;
-        pivots = subst (λ (s : Configuration). IsTrue (all_below (length s.pivots) may.leaf)) f.held.same fits.1;
-        same = λ w e. same_Some w.leaf may.leaf (sym ((f.held.kept.sound.each old.0.actor r back.fits.part).holds.split (work_of w) (row_split ∙ ap split_of e)) ∙ claimed);
-      }
+  gather_claims = subst (λ (s : Configuration). IsClaiming s row) f.held.same (row_claims f.core f.held.kept old.0.actor r back.fits.part row row_claim row_split may.leaf claimed)
 
   -- the split under way, by the record's own claim and split
   abbrev W : Configuration → SplitWork
@@ -148,7 +138,7 @@ module _ (settings : Configuration) (old m : Seated) (page : ℕ) (had : Node) (
     starts_does : StartsRow settings page row made → HoldsLast m (page + 17) (OfPage had) → Doing settings m.0 (turning m.0 made had) (page + 17) (OfPage had)
     starts_does x last = turn_makes settings old m page had a row rows told p is f had (begun settings) made (start page) begun_makes (begun_tie x) last
 
-    pub gathers_does : (answer : Result Visit NoMemory) → GathersRow settings page had row answer made → HoldsLast m (page + 17) (OfPage had) → Doing settings m.0 (turning m.0 made had) (page + 17) (OfPage had)
+    pub gathers_does : (answer : Result Visit NoMemory) → GathersRow settings page answer had row made → HoldsLast m (page + 17) (OfPage had) → Doing settings m.0 (turning m.0 made had) (page + 17) (OfPage had)
     gathers_does (Ok (Down q)) x last = starts_does x.1 last
     gathers_does (Ok (Right q)) x last = starts_does x.1 last
     gathers_does (Ok (Read next)) x last = turn_makes settings old m page had a row rows told p is f had (grown settings) made (gather page had) (grown_makes x.1.ends) (grown_tie x.1) last
@@ -167,7 +157,7 @@ module _ (settings : Configuration) (old m : Seated) (page : ℕ) (had : Node) (
           turn_tells settings old m page had a row rows told p is f new made had gave (start page) rel law (begun_makes.does f.core f.held.kept f.held.same back.fits at_page).0
           (begun f.core.board.settings) (ap begun f.held.same ∙ begun_tie x) (set_there f.core.actors old.0.actor (begun f.core.board.settings) r back.fits.part) at_page refl refl
 
-      tells : (answer : Result Visit NoMemory) → GathersRow settings page had row answer made → Gathers (seat_view old.0) (seat_view new.0) page answer
+      tells : (answer : Result Visit NoMemory) → GathersRow settings page answer had row made → Gathers (seat_view old.0) (seat_view new.0) page answer
       tells (Ok (Down q)) x = starts_tell
           (λ c v w. IsTrue (v.named page) → ((i : ℕ) → Some q ≡ Some i → IsTrue (w.named i)) → node_at c.pages page ≡ Some had → PointsDown had 0 (gather_key v) q → Gathers v w page (Ok (Down q)))
           (gathers_down_seated page had q) x.1 known (names q (names_child had (row_work settings row).mark q x.0.route)) at_page (subst (λ k. PointsDown had 0 k q) mark_shown x.0)
@@ -182,5 +172,5 @@ module _ (settings : Configuration) (old m : Seated) (page : ℕ) (had : Node) (
           (grown f.core.board.settings) (ap grown f.held.same ∙ grown_tie x.1) (set_there f.core.actors old.0.actor (grown f.core.board.settings) r back.fits.part) at_page refl refl
           known (read_names next (cell_range (grid settings) (row_work settings row).leaf).to x.0) (subst (λ k. ReadsOn had k next) last_shown x.0)
 
-      pub gathers_told : (answer : Result Visit NoMemory) → GathersRow settings page had row answer made → Gathers (seat_view was.sight) (seat_view new.0) page answer
+      pub gathers_told : (answer : Result Visit NoMemory) → GathersRow settings page answer had row made → Gathers (seat_view was.sight) (seat_view new.0) page answer
       gathers_told answer x = subst (λ (v : Sight). Gathers (seat_view v) (seat_view new.0) page answer) (sym sight_is) (tells answer x)

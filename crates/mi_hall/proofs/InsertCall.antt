@@ -1,5 +1,5 @@
 -- An insert by a pass.
-use Rattle.std.proofs.Common.{◌≡◌, ℕ, ℤ, ◌+◌, ◌<◌, ◌≤◌, ◌^◌, List, [], ◌∷◌, ◌++◌, length, Bool, true, false, IsTrue, inl, inr, refl, sym, ap, ◌∙◌, subst, arith, Option, Some, None, get_or-set_same}
+use Rattle.std.proofs.Common.{◌≡◌, ℕ, ℤ, ◌+◌, ◌<◌, ◌≤◌, ◌^◌, List, [], ◌∷◌, length, Bool, true, false, IsTrue, refl, sym, ap, ◌∙◌, subst, arith, Option, Some, None, get_or-set_same}
 use Rattle.std.specs.Prelude.{IsSome, slice_get, slice_set}
 use Rattle.std.proofs.lemmas.Option.{same_Some}
 use Rattle.atomic_table.specs.Table.{rest}
@@ -11,7 +11,7 @@ use Rattle.mi_base.specs.Prefixes.{all_below}
 use Rattle.mi_board.specs.Boards.{BoardState, HasRoom, crowded_at}
 use Rattle.mi_core.specs.Effects.{committed, noted, put_entry, saw, trim_leaf, with_update}
 use Rattle.mi_core.specs.Events.{Can, CanInsert, Event, after}
-use Rattle.mi_core.specs.Events.Event.{insert, meet, refuse_at, visit}
+use Rattle.mi_core.specs.Events.Event.{insert, meet, refuse_at}
 use Rattle.mi_core.specs.Refusals.{Refusal}
 use Rattle.mi_core.specs.Refusals.Refusal.{crowded, full, page_full}
 use Rattle.mi_core.specs.State.{State, node_at}
@@ -21,7 +21,6 @@ use Rattle.mi_entries.specs.Actors.{Actor}
 use Rattle.mi_entries.specs.Entries.{grid}
 use Rattle.mi_entries.specs.Records.{Rows, Shard, held_by, home, no_shard, shard_at, with_record}
 use Rattle.mi_key.specs.declared.entries.Entry.{Entry}
-use Rattle.mi_latch.specs.declared.slots.Slot.{Slot}
 use Rattle.mi_latch.specs.declared.slots.Slot.TheVariants.{OfBoard, OfPage, OfShard}
 use Rattle.mi_latch.specs.Boards.{Telling, seeing}
 use Rattle.mi_latch.specs.Decided.{SameCause}
@@ -29,7 +28,7 @@ use Rattle.mi_latch.specs.Found.{FoundBoard}
 use Rattle.mi_latch.specs.Naming.{names_of}
 use Rattle.mi_latch.specs.Shows.{HasKey}
 use Rattle.mi_latch.specs.Takes.{Finds, see_none, took}
-use Rattle.mi_latch.specs.Views.{Doing, HoldsLast, Mine, Seated, Sight, now}
+use Rattle.mi_latch.specs.Views.{Doing, HoldsLast, Seated, Sight, now}
 use Rattle.mi_latch.proofs.CommitSections.{insert_gives, meet_gives, refuse_at_gives}
 use Rattle.mi_page.specs.Entries.{without_dead}
 use Rattle.mi_page.specs.Nodes.{Node, item_count}
@@ -47,13 +46,13 @@ use Rattle.mi_world.specs.declared.answers.Commit.TheVariants as commit
 use Rattle.mi_world.specs.LeafKeys.{key_under}
 use Rattle.mi_world.specs.Pages.{CommitsInsert, MayInsert, MaySeek, insert_key, next_number}
 use Rattle.mi_world.specs.View.{View, prefix_or}
-use Rattle.mi_solo.specs.CommitRows.{EntersRow, InsertsRow, IsMade, MayEnter, OnlyMeets, PutsEntry, key_in_row, next_birth}
+use Rattle.mi_solo.specs.CommitRows.{InsertsRow, IsMade, MayEnter, OnlyMeets, PutsEntry, key_in_row, next_birth}
 use Rattle.mi_hall.specs.CommitRows.{giving_beside}
 use Rattle.mi_hall.specs.Knowledge.{is_named}
-use Rattle.mi_hall.specs.Passes.{HasCells, IsPass, PassState, turning}
+use Rattle.mi_hall.specs.Passes.{IsPass, turning}
 use Rattle.mi_hall.specs.Places.{BothMake, IsBacked}
 use Rattle.mi_hall.specs.Seats.{seat_view}
-use Rattle.mi_hall.proofs.CommitPasses.{Commits, Keeps, back, ended_cells, ended_tells, ends, found, has_rows, here, holds_both, holds_commit, in_hand, its_settings, outs_are, row_there, shard_near, telling, tells}
+use Rattle.mi_hall.proofs.CommitPasses.{Commits, Keeps, back, ended_tells, ends, found, has_rows, here, holds_both, holds_commit, in_hand, its_settings, outs_are, row_there, shard_near, telling, tells}
 use Rattle.mi_hall.proofs.CommitPlaces.{inserts_crowded_seated, inserts_down_seated, inserts_full_seated, inserts_page_full_seated, inserts_right_seated, inserts_seated}
 use Rattle.mi_solo.proofs.InsertRow.{may_enter}
 use Rattle.mi_hall.proofs.KnowledgeLemmas.{first_named}

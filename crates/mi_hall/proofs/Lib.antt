@@ -53,5 +53,4 @@ pub mod DeleteCall
 pub mod ReserveCall
 pub mod SweepCall
 pub mod CopyCalls
-pub mod GatherRows
 pub mod GatherCall

@@ -1,12 +1,11 @@
 -- The pages that a pass was told of have their words in the table; and what a page in hand names.
-use Rattle.std.proofs.Common.{◌≡◌, ℕ, suc, zero, ◌+◌, ◌<◌, ◌==◌, ◌||◌, List, [], ◌∷◌, ◌++◌, map, Bool, true, false, cond, IsTrue, inl, inr, ⊎_elim, refl, sym, ap, ◌∙◌, subst, arith, Option, Some, None, Result, Ok, Err, eqb-true, eq-eqb}
+use Rattle.std.proofs.Common.{◌≡◌, ℕ, suc, zero, ◌+◌, ◌<◌, ◌==◌, ◌||◌, List, [], ◌∷◌, ◌++◌, map, Bool, true, false, cond, IsTrue, inl, inr, ⊎_elim, refl, sym, ap, ◌∙◌, subst, arith, Option, Some, None, eqb-true, eq-eqb}
 use Rattle.std.specs.Prelude.{slice_get}
 use Rattle.std.proofs.lemmas.Bool.{false≢true}
 use Rattle.std.proofs.lemmas.Option.{none-some, same_Some}
 use Rattle.atomic_table.specs.Seated.{TableId}
 use Rattle.atomic_table.specs.Table.{rest}
 use Rattle.mi_base.specs.Configuration.{Configuration}
-use Rattle.mi_base.specs.declared.refusals.NoMemory.{NoMemory}
 use Rattle.mi_board.specs.Boards.{BoardState}
 use Rattle.mi_core.specs.Named.{IsNamed, Named}
 use Rattle.mi_core.specs.State.{State}
@@ -23,9 +22,6 @@ use Rattle.mi_page.specs.Routes.{IsChild}
 use Rattle.mi_page.specs.declared.routes.Route.{Route}
 use Rattle.mi_solo.specs.declared.rows.ActorRow.{ActorRow}
 use Rattle.mi_solo.specs.Seeking.{EndsBefore}
-use Rattle.mi_tree.specs.declared.answers.AllotRefusal.{AllotRefusal}
-use Rattle.mi_tree.specs.declared.answers.AllotRefusal.TheVariants.{Memory, PagesFull}
-use Rattle.mi_tree.specs.declared.answers.Look.{Look}
 use Rattle.mi_hall.specs.Knowledge.{is_named, level_of, low_of}
 use Rattle.mi_hall.specs.Passes.{AreNear, PassState, giving}
 use Rattle.mi_hall.proofs.KnowledgeLemmas.{first_named, more_named}

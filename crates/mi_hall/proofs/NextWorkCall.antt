@@ -1,17 +1,16 @@
 -- A pass is given a splitter's next work.
-use Rattle.std.proofs.Common.{◌≡◌, ℕ, List, length, Bool, refl, sym, ap, ◌∙◌, subst, arith, Option, Some, None}
+use Rattle.std.proofs.Common.{◌≡◌, ℕ, Bool, sym, ap, ◌∙◌, subst, arith, Option, Some, None}
 use Rattle.atomic_table.specs.Seated.{TableId}
 use Rattle.atomic_table.specs.Table.{rest}
 use Rattle.mi_base.specs.Configuration.{Configuration}
 use Rattle.mi_board.specs.Boards.{BoardState}
 use Rattle.mi_core.specs.State.{State}
-use Rattle.mi_entries.specs.Actors.{Actor}
 use Rattle.mi_entries.specs.Records.{Rows}
 use Rattle.mi_latch.specs.declared.slots.Slot.TheVariants.{OfBoard}
 use Rattle.mi_latch.specs.Decided.{IsDecided}
 use Rattle.mi_latch.specs.Found.{FoundBoard}
 use Rattle.mi_latch.specs.Takes.{Finds, see_none, took}
-use Rattle.mi_latch.specs.Views.{Doing, HoldsLast, Seated, Sight}
+use Rattle.mi_latch.specs.Views.{Doing, HoldsLast, Seated}
 use Rattle.mi_solo.specs.declared.rows.ActorRow.{ActorRow}
 use Rattle.mi_solo.specs.OnBoards.{TurnsBoard}
 use Rattle.mi_hall.specs.Passes.{HasCells, IsPass, PassState, giving, row_actor}

@@ -8,7 +8,7 @@ use Rattle.atomic_table.specs.Table.{rest}
 use Rattle.mi_base.specs.Configuration.{Configuration}
 use Rattle.mi_base.specs.declared.records.LogEvent.{LogEvent}
 use Rattle.mi_base.specs.declared.records.Position.{Position}
-use Rattle.mi_base.specs.History.{at_position, end_of}
+use Rattle.mi_base.specs.History.{end_of}
 use Rattle.mi_board.specs.Boards.{BoardState}
 use Rattle.mi_core.specs.Events.{first_actor}
 use Rattle.mi_entries.specs.Actors.{Actor, Pin}

@@ -1,5 +1,5 @@
 -- A pass pins the whole log.
-use Rattle.std.proofs.Common.{◌≡◌, ℕ, ◌<◌, length, Bool, IsTrue, refl, sym, ap, ◌∙◌, subst, Option, Some, None}
+use Rattle.std.proofs.Common.{◌≡◌, ℕ, Bool, IsTrue, sym, ap, ◌∙◌, subst, Option, None}
 use Rattle.std.specs.Prelude.{Result, Ok, Err}
 use Rattle.atomic_table.specs.Seated.{TableId}
 use Rattle.atomic_table.specs.Table.{rest}
@@ -12,7 +12,7 @@ use Rattle.mi_latch.specs.declared.slots.Slot.TheVariants.{OfBoard}
 use Rattle.mi_latch.specs.Decided.{IsDecided}
 use Rattle.mi_latch.specs.Found.{FoundBoard}
 use Rattle.mi_latch.specs.Takes.{Finds, see_none, took}
-use Rattle.mi_latch.specs.Views.{Doing, HoldsLast, Seated, Sight}
+use Rattle.mi_latch.specs.Views.{Doing, HoldsLast, Seated}
 use Rattle.mi_solo.specs.declared.rows.ActorRow.{ActorRow}
 use Rattle.mi_solo.specs.OnBoards.{TurnsBoard}
 use Rattle.mi_hall.specs.Passes.{HasCells, IsPass, PassState, giving, row_actor}

@@ -1,5 +1,5 @@
 -- A pass publishes its split.
-use Rattle.std.proofs.Common.{◌≡◌, ℕ, length, Bool, refl, sym, ap, ◌∙◌, subst, Option, Some, None}
+use Rattle.std.proofs.Common.{◌≡◌, ℕ, length, Bool, sym, ap, ◌∙◌, subst, Option}
 use Rattle.std.specs.Prelude.{Result, Ok, Err}
 use Rattle.atomic_table.specs.Seated.{TableId}
 use Rattle.atomic_table.specs.Table.{rest}

@@ -1,49 +1,33 @@
 -- A sweep of a pass.
-use Rattle.std.proofs.Common.{◌≡◌, ℕ, ◌+◌, ◌-◌, ◌≤◌, ◌==◌, length, Bool, true, false, cond, IsTrue, refl, sym, ap, ◌∙◌, subst, arith, Option, Some, None, get_or-set_same}
-use Rattle.std.specs.Prelude.{IsSome, is_some, slice_get}
-use Rattle.std.proofs.lemmas.Bool.{false≢true}
+use Rattle.std.proofs.Common.{◌≡◌, ℕ, ◌+◌, ◌≤◌, Bool, IsTrue, sym, ap, ◌∙◌, subst, arith, Option, Some, None}
+use Rattle.std.specs.Prelude.{IsSome}
 use Rattle.std.proofs.lemmas.Option.{none-some, same_Some}
 use Rattle.atomic_table.specs.Seated.{TableId}
 use Rattle.atomic_table.specs.Table.{rest}
 use Rattle.mi_base.specs.Configuration.{Configuration}
-use Rattle.mi_base.specs.History.{at_position, events_at}
-use Rattle.mi_base.specs.Prefixes.{all_below}
-use Rattle.mi_core.specs.Effects.{sweep_node}
-use Rattle.mi_core.specs.Events.{Can, sweep_leaf, sweep_next}
 use Rattle.mi_core.specs.Events.Event.{sweep, visit}
-use Rattle.mi_core.specs.Kept.{Kept}
 use Rattle.mi_core.specs.State.{State, node_at}
-use Rattle.mi_core.proofs.ActorLemmas.{set_there}
-use Rattle.mi_core.proofs.PageLemmas.{within}
-use Rattle.mi_entries.specs.Actors.{Actor, SweepWork}
-use Rattle.mi_entries.specs.Entries.{grid}
-use Rattle.mi_entries.specs.Marks.{cell_end, cell_range, mark_past, swept_on}
+use Rattle.mi_entries.specs.Actors.{Actor}
 use Rattle.mi_entries.specs.Records.{Rows}
-use Rattle.mi_entries.proofs.RetiredLemmas.{IsPast, past_later}
 use Rattle.mi_latch.specs.declared.slots.Slot.TheVariants.{OfPage}
 use Rattle.mi_latch.specs.Naming.{names_of}
 use Rattle.mi_latch.specs.Takes.{Finds, see_none, took}
 use Rattle.mi_latch.specs.Views.{Doing, HoldsLast, Seated, Sight}
-use Rattle.mi_latch.proofs.PageMakes.{sweep_makes}
-use Rattle.mi_page.specs.Keys.{IsInside, is_below}
 use Rattle.mi_page.specs.Nodes.{Node}
 use Rattle.mi_solo.specs.declared.rows.ActorRow.{ActorRow}
-use Rattle.mi_solo.specs.declared.rows.SweepRow.{SweepRow}
-use Rattle.mi_solo.specs.Seeking.{EndsAfter, PointsDown, PointsRight, ReadsOn}
+use Rattle.mi_solo.specs.Seeking.{PointsDown, PointsRight, ReadsOn}
 use Rattle.mi_solo.specs.States.{sweep_of}
 use Rattle.mi_solo.specs.Viewing.{swept_leaf, swept_to}
-use Rattle.mi_solo.specs.WorkRows.{swept_row}
 use Rattle.mi_solo.proofs.DescentLemmas.{shows_page}
 use Rattle.mi_solo.proofs.SweepSections.{last_swept, row_sweeps, sweep_event, sweep_is, sweeps_keep}
 use Rattle.mi_solo.specs.OnPages.{TurnsPage}
-use Rattle.mi_tree.specs.Cells.{Grid}
 use Rattle.mi_world.specs.declared.answers.Visit.{Visit}
 use Rattle.mi_world.specs.declared.answers.Visit.TheVariants.{Down, Right, Read}
 use Rattle.mi_world.specs.LeafKeys.{greatest_key}
 use Rattle.mi_world.specs.Splits.{Sweeps, last_key}
 use Rattle.mi_world.specs.View.{View, prefix_or}
 use Rattle.mi_hall.specs.Knowledge.{is_named}
-use Rattle.mi_solo.specs.LeafRows.{IsSweeping, SweepsPage, SweepsRow, swept_mark, swept_range}
+use Rattle.mi_solo.specs.LeafRows.{IsSweeping, SweepsRow, swept_mark, swept_range}
 use Rattle.mi_solo.specs.PageRows.{OnlyNotes}
 use Rattle.mi_hall.specs.Passes.{IsPass, PassState, row_actor, turning}
 use Rattle.mi_hall.specs.Places.{IsBacked, PageMakes}

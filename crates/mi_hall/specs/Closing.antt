@@ -1,5 +1,5 @@
 -- What is left of a hall whose places were all absorbed into one.
-use Rattle.std.specs.Prelude.{◌≡◌, ◌≤◌, ◌<◌, ◌⊎◌, ℕ, ◌+◌, ◌-◌, ◌==◌, [], true, IsTrue, Option, Some, None, length, slice_get, vec_capacity}
+use Rattle.std.specs.Prelude.{◌≡◌, ◌≤◌, ◌<◌, ◌⊎◌, ℕ, ◌+◌, ◌==◌, [], true, IsTrue, Option, Some, None, length, slice_get, vec_capacity}
 use Rattle.std.specs.List.{list_any}
 use Rattle.mi_base.specs.Prefixes.{has}
 use Rattle.mi_core.specs.Actors.{made_by}

@@ -10,4 +10,3 @@ pub mod Roots
 pub mod ShardHolds
 pub mod CommitRows
 pub mod Commits
-pub mod GatherRows

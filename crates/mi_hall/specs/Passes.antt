@@ -1,15 +1,11 @@
 -- What a pass is: a seat between two calls, with what its actor keeps in code.
-use Rattle.std.specs.Prelude.{◌≡◌, ◌<◌, ℕ, ◌+◌, List, [], ◌∷◌, ◌++◌, Bool, true, Option, Some, None, Result, Ok, Err, length}
-use Rattle.std.specs.Arc.{arc_value}
+use Rattle.std.specs.Prelude.{◌≡◌, ◌<◌, ℕ, ◌+◌, List, [], ◌∷◌, ◌++◌, Bool, true, Option, Some, None, Result, Ok, Err}
 use Rattle.mi_base.specs.declared.records.Position.{Position}
-use Rattle.mi_base.specs.declared.refusals.NoMemory.{NoMemory}
 use Rattle.mi_base.specs.History.{at_position, end_of}
 use Rattle.mi_tree.specs.declared.answers.AllotRefusal.{AllotRefusal}
 use Rattle.mi_tree.specs.declared.answers.AllotRefusal.TheVariants.{Memory, PagesFull}
-use Rattle.mi_tree.specs.declared.answers.Look.{Look}
-use Rattle.mi_solo.specs.declared.rows.PinRow.{PinRow}
 use Rattle.mi_base.specs.Configuration.{Configuration}
-use Rattle.mi_board.specs.Boards.{BoardState, cells_in, floor_of, look_of, pinned}
+use Rattle.mi_board.specs.Boards.{BoardState}
 use Rattle.mi_core.specs.Named.{Named}
 use Rattle.mi_entries.specs.Actors.{Actor, Pin}
 use Rattle.mi_entries.specs.Records.{Rows}

@@ -1,21 +1,15 @@
 //! A pass's gather of a page.
 ghost use Rattle.std.specs.Prelude.{◌≡◌, ◌≤◌, IsTrue};
-ghost use Rattle.mi_solo.specs.Seeking.{HasSibling};
 ghost use Rattle.mi_world.specs.Splits.{Gathers, MayGather, gather_key};
-ghost use Rattle.mi_hall.specs.GatherRows.{GathersHere, GathersRow, HasWork, IsClaiming, StartsRow, row_work};
 ghost use Rattle.mi_hall.specs.Passes.{turning};
 ghost use Rattle.mi_hall.specs.Seats.{seat_view};
 
 use crate::page_calls::give_page;
 use crate::passes::Pass;
-use mi_base::{NoMemory, Settings};
+use mi_base::NoMemory;
 use mi_latch::LatchTable;
-use mi_page::Page;
-use mi_solo::cell_keys::{cell_keys, end_key, first_key};
-use mi_solo::rows::ActorRow;
-use mi_solo::seeking::{Way, next_page, seek};
+use mi_solo::gather_rows::gather_row;
 use mi_world::Visit;
-use std::alloc::Global;
 use std::marker::Brand;
 use std::sync::Wait;
 
@@ -40,68 +34,5 @@ impl Pass {
         let answer = gather_row(self.alloc, &latches.settings, &node, &mut self.row, page);
         give_page::<Brand>(latches, &mut self.seat, &self.row, page, node);
         answer
-    }
-}
-
-/// Gathers what the page in hand has of the leaf that the row claims, if that is the next one that
-/// may have some.
-fn gather_row(
-    alloc: Global,
-    settings: &Settings,
-    node: &Page,
-    row: &mut ActorRow,
-    page: u32,
-) -> Result<Visit, NoMemory>
-    requires claiming { IsClaiming settings.now row.old }
-    requires low { node.now.low ≤ (row_work settings.now row.old).mark }
-    requires sibling { HasSibling node.now }
-    ensures { GathersRow settings.now page node.now row.old result row.new }
-{
-    start_row(alloc, settings, row, page);
-    let Some(work) = &row.split else {
-        unreachable!();
-    };
-    match seek(node, 0, work.mark) {
-        Way::Down { page: child } => Ok(Visit::Down { page: child }),
-        Way::Right { page: next } => Ok(Visit::Right { page: next }),
-        Way::Here => match gather_here(settings, node, row) {
-            Ok(next) => Ok(Visit::Read { next }),
-            Err(refusal) => Err(refusal),
-        },
-    }
-}
-
-/// The row's split is under way: as it was, or of the leaf that it claims with nothing gathered.
-fn start_row(alloc: Global, settings: &Settings, row: &mut ActorRow, page: u32)
-    requires { IsClaiming settings.now row.old }
-    ensures { StartsRow settings.now page row.old row.new }
-{
-    let Some(leaf) = &row.claim else {
-        unreachable!();
-    };
-    let leaf = leaf.copy();
-    let first = first_key(settings, &leaf);
-    row.open_split(alloc, page, leaf, first);
-}
-
-/// The row's split has gathered the page in hand too, and where it goes on.
-fn gather_here(
-    settings: &Settings,
-    node: &Page,
-    row: &mut ActorRow,
-) -> Result<Option<u32>, NoMemory>
-    requires work { HasWork settings.now row.old }
-    requires leaf { node.now.level ≡ 0 }
-    requires sibling { HasSibling node.now }
-    ensures { GathersHere settings.now node.now row.old result row.new }
-{
-    let Some(work) = &row.split else {
-        unreachable!();
-    };
-    let keys = cell_keys(settings, &work.leaf);
-    let end = end_key(settings, &work.leaf);
-    match row.gather(node, &keys, end) {
-        Ok(()) => Ok(next_page(node, keys.to)),
-        Err(refusal) => Err(refusal),
     }
 }

@@ -47,3 +47,4 @@ pub mod BoardTurns
 pub mod CopyRows
 pub mod InsertRow
 pub mod InsertTurns
+pub mod GatherRows

@@ -26,7 +26,7 @@ use Rattle.mi_solo.proofs.CoreLemmas.{comes_to, row_is, there}
 use Rattle.mi_solo.proofs.PageLemmas.{page_here}
 
 -- a page that is put where it is changes nothing
-put_same : (a : ℕ) (to : Actor) (page : ℕ) (was : Node) (s : State) → node_at s.pages page ≡ Some was → put_actor a to s ≡ put_actor a to (put_page page was s)
+pub put_same : (a : ℕ) (to : Actor) (page : ℕ) (was : Node) (s : State) → node_at s.pages page ≡ Some was → put_actor a to s ≡ put_actor a to (put_page page was s)
 put_same a to page was s here =
     let P : List (Option Node) → State = λ pages. record { board = s.board; shards = s.shards; pages = pages; actors = set s.actors a to } in
     ap P (sym (ap (set s.pages page) (sym here) ∙ set-get_or s.pages page None))
@@ -125,3 +125,20 @@ module _ (c : Core) (a : ℕ) (known : a < length c.actors.items) (row : ActorRo
     is = comes_to c a known row at c.board c.board refl refl (λ m n. refl) c.shards.items c.shards.items refl (set c.pages.items page (Some new)) (set c.pages.items page (Some new)) refl
         made (λ (r : Actor). actor_of c.board.settings c.board.log a made) refl;
   }
+
+  -- a page that was read alone stays
+  pub on_read_page : (makes : Node → ActorRow → Node → ActorRow → Type 0) (made : ActorRow) → makes node row node made
+      → OnPage (state_of c) a page makes (record { board = c.board; shards = c.shards.items; pages = c.pages.items; actors = actors_of c.board.settings c.board.log 0 (set c.actors.items a made) })
+  on_read_page makes made does =
+      let here = page_here c page linked read was node is in
+      let to = actor_of c.board.settings c.board.log a made in
+      record {
+        was = node;
+        row = row;
+        new = node;
+        made = made;
+        there = here;
+        row_is = there c a known ∙ ap Some (row_is c a known row at);
+        does = does;
+        is = comes_to c a known row at c.board c.board refl refl (λ m n. refl) c.shards.items c.shards.items refl c.pages.items c.pages.items refl made (λ (r : Actor). to) refl ∙ put_same a to page node (state_of c) here;
+      }

@@ -5,7 +5,7 @@ use Rattle.std.proofs.lemmas.Option.{get_or_from_slice_get}
 use Rattle.mi_base.specs.declared.refusals.NoMemory.{NoMemory}
 use Rattle.mi_core.specs.Actors.{made_by}
 use Rattle.mi_core.specs.Events.{Can, IsFree, after, first_actor, leaf_or}
-use Rattle.mi_core.specs.Events.Event.{give_up as give_up_event, publish}
+use Rattle.mi_core.specs.Events.Event.{gather, give_up as give_up_event, publish, start}
 use Rattle.mi_core.specs.Kept.{Kept}
 use Rattle.mi_base.specs.declared.records.Position.{Position}
 use Rattle.mi_base.specs.History.{end_of}
@@ -20,20 +20,21 @@ use Rattle.mi_world.specs.declared.answers.Visit.TheVariants.{Down, Read, Right}
 use Rattle.mi_world.specs.Boards.{GivesWork}
 use Rattle.mi_world.specs.LeafKeys.{greatest_key}
 use Rattle.mi_world.specs.View.{prefix_or}
-use Rattle.mi_world.specs.Splits.{Gathers, GivesUp, IsGathered, Publishes, Sweeps}
+use Rattle.mi_world.specs.Splits.{Gathers, GivesUp, IsGathered, MayGather, Publishes, Sweeps, gather_key}
 use Rattle.mi_solo.specs.declared.cores.Core.{Core}
 use Rattle.mi_solo.specs.BoardRows.{PublishesRow, WorksRow}
 use Rattle.mi_solo.specs.OnBoards.{OnBoard}
 use Rattle.mi_solo.specs.LeafRows.{SweepsRow, swept_mark}
 use Rattle.mi_solo.specs.OnPages.{OnPage}
-use Rattle.mi_solo.specs.Seeking.{PointsDown, PointsRight, ReadsOn}
+use Rattle.mi_solo.specs.Seeking.{EndsAfter, PointsDown, PointsRight, ReadsOn}
 use Rattle.mi_solo.specs.States.{Does, IsGoing, actor_in, actor_of, is_linked, node_in, state_of, view_in}
 use Rattle.mi_solo.specs.Viewing.{swept_leaf, swept_to}
 use Rattle.mi_solo.specs.Solos.{view_of}
-use Rattle.mi_solo.specs.WorkSections as made
 use Rattle.mi_solo.proofs.BoardTurns.{board_does, publish_event, publish_is, work_event, work_is}
 use Rattle.mi_solo.proofs.CoreLemmas.{there}
-use Rattle.mi_solo.proofs.GatherEvents.{gathers_down, gathers_memory, gathers_on, gathers_right}
+use Rattle.mi_solo.specs.GatherRows.{GathersPage, row_work}
+use Rattle.mi_solo.proofs.GatherRows.{gather_event, gather_is, row_last, row_mark}
+use Rattle.mi_solo.proofs.GatherEvents.{can_gather, can_start, gathers_down, gathers_memory, gathers_on, gathers_right}
 use Rattle.mi_solo.proofs.PageAnswers.{page_is}
 use Rattle.mi_solo.proofs.GatheredLemmas.{may_publish}
 use Rattle.mi_solo.proofs.PageTurns.{page_does}
@@ -95,15 +96,35 @@ module _ (c d : Core) (a : ℕ) (k : Kept (state_of c)) (g : IsGoing c a) where
       go (Read next) h y = answered c d a k g y tt (sweeps_on page x.was next (state_of c) k a (actor_in (state_of c) a) _ (there c a g.known) g.going y.can (now c d a k g y)
           (subst (λ to. ReadsOn x.was to next) (last_swept c.board.settings x.row ∙ ap (λ (q : Actor). greatest_key c.board.settings (prefix_or (swept_leaf q.sweep))) (sym (get_or_from_slice_get (state_of c).actors a _ first_actor x.row_is))) h.0))
 
-  module _ (page : ℕ) (linked : IsTrue (is_linked (state_of c) page)) where
-    abbrev n : Node
-    n = node_in (state_of c) page
+  -- a page is gathered
+  pub answer_gather : (page : ℕ) → MayGather (view_in (state_of c) a) → (node_in (state_of c) page).low ≤ gather_key (view_in (state_of c) a) → (r : Result Visit NoMemory)
+      → OnPage (state_of c) a page (GathersPage c.board.settings page r) (state_of d) → Answered c d a (λ v w. Gathers v w page r)
+  answer_gather page ready low r x = go r x.does y
+    where
+      s : State
+      s = state_of c
 
-    here : node_at (state_of c).pages page ≡ Some (node_in (state_of c) page)
-    here = page_is (state_of c) page linked
+      q : Actor
+      q = actor_in (state_of c) a
 
-    pub answer_gather : (r : Result Visit NoMemory) → made.Gathers (state_of c) a page r (state_of d) → Answered c d a (λ v w. Gathers v w page r)
-    answer_gather (Ok (Down p)) x = answered c d a k g x.0 tt (gathers_down page n p (state_of c) k a (actor_in (state_of c) a) _ (there c a g.known) g.going x.0.can (now c d a k g x.0) here x.1)
-    answer_gather (Ok (Right p)) x = answered c d a k g x.0 tt (gathers_right page n p (state_of c) k a (actor_in (state_of c) a) _ (there c a g.known) g.going x.0.can (now c d a k g x.0) here x.1)
-    answer_gather (Ok (Read next)) x = answered c d a k g x.0 tt (gathers_on page n next (state_of c) k a (actor_in (state_of c) a) _ (there c a g.known) g.going x.0.can (now c d a k g x.0) x.1)
-    answer_gather (Err e) x = answered c d a k g x tt (gathers_memory page e (state_of c) k a (actor_in (state_of c) a) _ (there c a g.known) g.going x.can (now c d a k g x))
+      its : actor_in (state_of c) a ≡ actor_of c.board.settings c.board.log a x.row
+      its = get_or_from_slice_get (state_of c).actors a _ first_actor x.row_is
+
+      mark : (row_work c.board.settings x.row).mark ≡ gather_key (view_in (state_of c) a)
+      mark = row_mark s k a q (there c a g.known) g.going page x.row (ap (λ (z : Actor). z.claim) its) (ap (λ (z : Actor). z.split) its) ready.leaf ready.leaf_is
+
+      low_shown : (view_in (state_of c) a).low page ≤ gather_key (view_in (state_of c) a)
+      low_shown = low
+
+      y : Does (state_of c) a (gather_event page x.was r) (state_of d)
+      y = page_does s a page (state_of d) x (gather_event page x.was r) (gather_is s a page x.was x.new x.there c.board.settings (made_by a c.board.log) x.row x.made refl
+          (subst (λ (z : Actor). Can s a z (start page)) its (can_start s k a q (there c a g.known) g.going ready page x.was x.there))
+          (λ ends. subst (λ (z : Actor). Can s a z (gather page x.was)) its (can_gather s k a q (there c a g.known) g.going ready page x.was x.there low_shown (subst (EndsAfter x.was 0) mark ends))) r x.does)
+
+      go : (r : Result Visit NoMemory) → GathersPage c.board.settings page r x.was x.row x.new x.made → Does (state_of c) a (gather_event page x.was r) (state_of d) → Answered c d a (λ v w. Gathers v w page r)
+      go (Ok (Down p)) h y = answered c d a k g y tt (gathers_down page x.was p (state_of c) k a (actor_in (state_of c) a) _ (there c a g.known) g.going y.can (now c d a k g y) x.there (subst (λ m. PointsDown x.was 0 m p) mark h.1.0))
+      go (Ok (Right p)) h y = answered c d a k g y tt (gathers_right page x.was p (state_of c) k a (actor_in (state_of c) a) _ (there c a g.known) g.going y.can (now c d a k g y) x.there (subst (λ m. PointsRight x.was 0 m p) mark h.1.0))
+      go (Ok (Read next)) h y =
+          let last = row_last (state_of c) k a (actor_in (state_of c) a) (there c a g.known) g.going page x.row (ap (λ (z : Actor). z.claim) its) (ap (λ (z : Actor). z.split) its) ready.leaf ready.leaf_is in
+          answered c d a k g y tt (gathers_on page x.was next (state_of c) k a (actor_in (state_of c) a) _ (there c a g.known) g.going y.can (now c d a k g y) (subst (λ m. ReadsOn x.was m next) last h.1.0))
+      go (Err e) h y = answered c d a k g y tt (gathers_memory page e (state_of c) k a (actor_in (state_of c) a) _ (there c a g.known) g.going y.can (now c d a k g y))

@@ -9,6 +9,7 @@ mod copy_sections;
 pub mod copying;
 pub mod cores;
 mod delete_section;
+pub mod gather_rows;
 pub mod gathering;
 pub mod hands;
 pub mod insert_rows;

@@ -5,13 +5,13 @@ ghost use Rattle.mi_core.specs.Kept.{Kept};
 ghost use Rattle.mi_solo.specs.States.{Does, IsGoing, actor_in, is_linked, node_in, state_of, view_in};
 ghost use Rattle.mi_solo.specs.BoardRows.{PublishesRow, WorksRow};
 ghost use Rattle.mi_solo.specs.OnBoards.{OnBoard};
-ghost use Rattle.mi_solo.specs.WorkSections.{Gathers};
+ghost use Rattle.mi_solo.specs.GatherRows.{GathersPage};
+ghost use Rattle.mi_solo.specs.OnPages.{OnPage};
 ghost use Rattle.mi_world.specs.Splits.{IsGathered, MayGather, copied_in, gather_key, gathered_in};
 
 use crate::board_rows::{publish_row, work_row};
-use crate::cell_keys::{cell_keys, end_key, first_key};
 use crate::cores::Core;
-use crate::seeking::{Way, next_page, seek};
+use crate::gather_rows::gather_row;
 use mi_base::{NoMemory, Position};
 use mi_tree::Work;
 use mi_world::Visit;
@@ -37,36 +37,13 @@ impl Core {
         requires ready { MayGather (view_in (state_of self.old) actor) }
         requires linked { IsTrue (is_linked (state_of self.old) page) }
         requires low { (node_in (state_of self.old) page).low ≤ gather_key (view_in (state_of self.old) actor) }
-        ensures { Gathers (state_of self.old) actor page result (state_of self.new) }
+        ensures { OnPage (state_of self.old) actor page (GathersPage self.old.board.settings page result) (state_of self.new) }
     {
         let Some(node) = &self.pages[page as usize] else {
             unreachable!();
         };
-        let settings = self.board.settings();
         let me = &mut self.actors[actor as usize];
-        let Some(leaf) = &me.claim else {
-            unreachable!();
-        };
-        let leaf = leaf.copy();
-        let first = first_key(settings, &leaf);
-        me.open_split(alloc, page, leaf, first);
-        let Some(work) = &me.split else {
-            unreachable!();
-        };
-        match seek(node, 0, work.mark) {
-            Way::Down { page: child } => Ok(Visit::Down { page: child }),
-            Way::Right { page: next } => Ok(Visit::Right { page: next }),
-            Way::Here => {
-                let keys = cell_keys(settings, &work.leaf);
-                let end = end_key(settings, &work.leaf);
-                match me.gather(node, &keys, end) {
-                    Ok(()) => Ok(Visit::Read {
-                        next: next_page(node, keys.to),
-                    }),
-                    Err(refusal) => Err(refusal),
-                }
-            }
-        }
+        gather_row(alloc, self.board.settings(), node, me, page)
     }
 
     /// How many entries the actor's split has gathered, 0 without one.

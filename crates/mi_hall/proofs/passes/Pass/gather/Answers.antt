@@ -1,13 +1,13 @@
 use Rattle.std.proofs.Common.{◌≤◌, ◌∙◌, ap, subst, sym}
 use Rattle.atomic_table.specs.Seated.{TableId}
 use Rattle.mi_base.specs.Configuration.{Configuration}
-use Rattle.mi_hall.specs.GatherRows.{GathersRow, IsClaiming, row_work}
+use Rattle.mi_solo.specs.GatherRows.{GathersRow, IsClaiming, row_work}
 use Rattle.mi_hall.specs.Passes.{AreNear}
 use Rattle.mi_hall.proofs.AbsorbedLemmas.{kept_gone}
 use Rattle.mi_hall.proofs.PassLemmas.{given_at, turned_cells, word_stays}
 use Rattle.mi_hall.proofs.PageSection.{named_before, named_here, sibling_here, turned_near, turned_pass}
 use Rattle.mi_hall.proofs.GatherCall.{gather_claims, gather_low, gathers_does, gathers_told}
-use Rattle.mi_hall.proofs.GatherRows.{gathers_hand, gathers_pin, gathers_shard}
+use Rattle.mi_solo.proofs.GatherRows.{gathers_keep}
 use Rattle.mi_hall.proofs.passes.Pass.gather.Goals as goal
 
 pub take_page-node-requires-clause-table : goal.take_page-node-requires-clause-table
@@ -42,21 +42,19 @@ give_page-requires-clause-last g c = (_, c.take_page-node.ensures.last)
 pub give_page-requires-clause-does : goal.give_page-requires-clause-does
 give_page-requires-clause-does g c =
     let e = c.take_page-node.ensures in
-    let x = subst (λ (s : Configuration). GathersRow s c.args.page c.take_page-node.result c.self.inside.row c.gather_row-answer.result c.gather_row-answer.new.row) c.args.latches.now.same c.gather_row-answer.ensures in
+    let x = subst (λ (s : Configuration). GathersRow s c.args.page c.gather_row-answer.result c.take_page-node.result c.self.inside.row c.gather_row-answer.new.row) c.args.latches.now.same c.gather_row-answer.ensures in
     gathers_does _ _ _ _ _ _ _ _ _ c.self.invariant.0 e.took e.told _ _ c.self.view_is c.requires.leaf c.requires.named c.requires.low _ c.gather_row-answer.result x e.last
 
 pub invariant_of-self : goal.invariant_of-self
 invariant_of-self g c =
     let e = c.take_page-node.ensures in
+    let keeps = (gathers_keep c.args.latches.now.settings _ c.take_page-node.result c.self.inside.row c.gather_row-answer.new.row c.gather_row-answer.result c.gather_row-answer.ensures).0 in
     let x = named_before c.self.inside.seat.me c.self.inside.seat.table_id c.args.latches.now.table.shared.table_id c.args.self.now _ c.args.latches.now.words c.self.invariant.1 c.self.view_is c.requires.table _ c.requires.named in (
-      turned_pass _ _ _ _ _ _ _ _ _ c.self.invariant.0 e.took e.told c.give_page.new.seat.me c.gather_row-answer.new.row c.take_page-node.result c.give_page.ensures.gave
-          (gathers_shard c.args.latches.now.settings _ c.take_page-node.result c.self.inside.row c.gather_row-answer.new.row c.gather_row-answer.result c.gather_row-answer.ensures),
+      turned_pass _ _ _ _ _ _ _ _ _ c.self.invariant.0 e.took e.told c.give_page.new.seat.me c.gather_row-answer.new.row c.take_page-node.result c.give_page.ensures.gave keeps.shard,
       subst (λ (t : TableId). AreNear t.words c.give_page.new.seat.me.0.mine.named) (sym (c.give_page.ensures.table.0 ∙ e.table.0))
           (turned_near _ _ _ _ _ _ _ _ _ c.self.invariant.0 e.took e.told c.give_page.new.seat.me c.gather_row-answer.new.row c.take_page-node.result c.give_page.ensures.gave _ (ap (λ (t : TableId). t.words) x.0 ∙ c.args.latches.now.words) c.self.invariant.1),
-      turned_cells _ _ c.give_page.new.seat.me _ _ c.gather_row-answer.new.row _ _ _ c.take_page-node.result c.take_page-node.result c.self.invariant.0 c.self.invariant.2 e.took c.give_page.ensures.gave
-          (gathers_pin c.args.latches.now.settings _ c.take_page-node.result c.self.inside.row c.gather_row-answer.new.row c.gather_row-answer.result c.gather_row-answer.ensures),
-      word_stays _ _ c.self.inside.row.hand.fresh c.gather_row-answer.new.row.hand.fresh (c.give_page.ensures.table.0 ∙ e.table.0)
-          (gathers_hand c.args.latches.now.settings _ c.take_page-node.result c.self.inside.row c.gather_row-answer.new.row c.gather_row-answer.result c.gather_row-answer.ensures) c.self.invariant.3,
+      turned_cells _ _ c.give_page.new.seat.me _ _ c.gather_row-answer.new.row _ _ _ c.take_page-node.result c.take_page-node.result c.self.invariant.0 c.self.invariant.2 e.took c.give_page.ensures.gave keeps.pin,
+      word_stays _ _ c.self.inside.row.hand.fresh c.gather_row-answer.new.row.hand.fresh (c.give_page.ensures.table.0 ∙ e.table.0) keeps.fresh c.self.invariant.3,
       given_at _ _ _ c.give_page.ensures.gave (given_at _ _ _ e.took c.self.invariant.4),
       kept_gone _ _ _ c.give_page.ensures.gave (kept_gone _ _ _ e.took c.self.invariant.5),
     )
@@ -64,5 +62,5 @@ invariant_of-self g c =
 pub returns-clause-told : goal.returns-clause-told
 returns-clause-told g c =
     let e = c.take_page-node.ensures in
-    let x = subst (λ (s : Configuration). GathersRow s c.args.page c.take_page-node.result c.self.inside.row c.gather_row-answer.result c.gather_row-answer.new.row) c.args.latches.now.same c.gather_row-answer.ensures in
+    let x = subst (λ (s : Configuration). GathersRow s c.args.page c.gather_row-answer.result c.take_page-node.result c.self.inside.row c.gather_row-answer.new.row) c.args.latches.now.same c.gather_row-answer.ensures in
     gathers_told _ _ _ _ _ _ _ _ _ c.self.invariant.0 e.took e.told _ _ c.self.view_is c.requires.leaf c.requires.named c.requires.low _ _ c.give_page.ensures.gave c.gather_row-answer.result x

@@ -2,8 +2,8 @@ use Rattle.std.proofs.Common.{◌≤◌, ◌∙◌, ap, subst, sym}
 use Rattle.std.proofs.lemmas.Option.{none-some}
 use Rattle.mi_solo.specs.Seeking.{EndsAfter, PointsDown, PointsRight}
 use Rattle.mi_solo.specs.States.{split_of}
-use Rattle.mi_hall.proofs.GatherRows.{begun_has, begun_mark, gathers_more, reads_more, still_begun}
-use Rattle.mi_hall.proofs.gather_call.gather_row.Goals as goal
+use Rattle.mi_solo.proofs.GatherRows.{begun_has, begun_mark, gathers_more, reads_more, still_begun}
+use Rattle.mi_solo.proofs.gather_rows.gather_row.Goals as goal
 
 pub unreachable-requires : goal.unreachable-requires
 unreachable-requires c = none-some _ (sym (ap split_of c.in_default.is) ∙ c.start_row.ensures.begun)

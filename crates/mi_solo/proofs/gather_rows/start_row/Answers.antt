@@ -1,8 +1,17 @@
-use Rattle.std.proofs.Common.{◌≤◌, ◌∙◌, List, ℕ, IsTrue, Some, ap, length, subst, sym}
+use Rattle.std.proofs.Common.{◌≡◌, refl, ◌≤◌, ◌∙◌, List, ℕ, IsTrue, Some, ap, length, subst, sym}
 use Rattle.std.proofs.lemmas.Option.{none-some, same_Some}
 use Rattle.mi_base.specs.Prefixes.{all_below}
-use Rattle.mi_hall.proofs.GatherRows.{row_opened}
-use Rattle.mi_hall.proofs.gather_call.start_row.Goals as goal
+use Rattle.mi_solo.specs.declared.rows.ActorRow.{ActorRow}
+use Rattle.mi_solo.specs.GatherRows.{row_work}
+use Rattle.mi_solo.specs.States.{split_of}
+use Rattle.mi_solo.proofs.GatherRows.{row_open, row_opened}
+use Rattle.mi_solo.proofs.gather_rows.start_row.Goals as goal
+
+pub returns-then-is_some : goal.returns-then-is_some
+returns-then-is_some c = record {
+  row_is = subst (λ (z : ActorRow). z ≡ record c.args.row.now { page = c.args.page; split = z.split }) (sym c.note.ensures) refl;
+  begun = subst (λ (z : ActorRow). split_of z.split ≡ Some (row_work c.args.settings.now c.args.row.now)) (sym c.note.ensures) (row_open c.args.settings.now c.args.row.now (sym c.is_some.ensures ∙ c.if-is_some.true));
+}
 
 pub unreachable-requires : goal.unreachable-requires
 unreachable-requires c = let h = c.requires in none-some h.leaf (sym c.in_default.is ∙ h.is)

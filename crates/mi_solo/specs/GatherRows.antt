@@ -39,11 +39,15 @@ pub record GathersMore (c : Configuration) (page : ℕ) (n : Node) (row made : A
   pub more : split_of made.split ≡ Some (gather_more (grid c) (row_work c row) n)
 
 -- what a gather answers of a page, and what it makes of the row
-abbrev pub GathersRow : Configuration → ℕ → Node → ActorRow → Result Visit NoMemory → ActorRow → Type 0
-GathersRow c page n row (Ok (Down p)) made = PointsDown n 0 (row_work c row).mark p × StartsRow c page row made
-GathersRow c page n row (Ok (Right p)) made = PointsRight n 0 (row_work c row).mark p × StartsRow c page row made
-GathersRow c page n row (Ok (Read next)) made = ReadsOn n (cell_range (grid c) (row_work c row).leaf).to next × GathersMore c page n row made
-GathersRow c page n row (Err e) made = StartsRow c page row made
+abbrev pub GathersRow : Configuration → ℕ → Result Visit NoMemory → Node → ActorRow → ActorRow → Type 0
+GathersRow c page (Ok (Down p)) n row made = PointsDown n 0 (row_work c row).mark p × StartsRow c page row made
+GathersRow c page (Ok (Right p)) n row made = PointsRight n 0 (row_work c row).mark p × StartsRow c page row made
+GathersRow c page (Ok (Read next)) n row made = ReadsOn n (cell_range (grid c) (row_work c row).leaf).to next × GathersMore c page n row made
+GathersRow c page (Err e) n row made = StartsRow c page row made
+
+-- the same, of a page that stays
+abbrev pub GathersPage : Configuration → ℕ → Result Visit NoMemory → Node → ActorRow → Node → ActorRow → Type 0
+GathersPage c page answer n row new made = (new ≡ n) × GathersRow c page answer n row made
 
 -- the row has a split under way, of a cell of the settings' pivots
 pub record HasWork (c : Configuration) (row : ActorRow) : Type 0 where

@@ -6,8 +6,8 @@ use Rattle.mi_solo.specs.declared.rows.SplitRow.{SplitRow}
 use Rattle.mi_solo.specs.Seeking.{ReadsOn}
 use Rattle.mi_solo.specs.States.{split_of}
 use Rattle.mi_solo.specs.WorkRows.{work_of}
-use Rattle.mi_hall.proofs.GatherRows.{gathers_on}
-use Rattle.mi_hall.proofs.gather_call.gather_here.Goals as goal
+use Rattle.mi_solo.proofs.GatherRows.{gathers_on}
+use Rattle.mi_solo.proofs.gather_rows.gather_here.Goals as goal
 
 pub unreachable-requires : goal.unreachable-requires
 unreachable-requires c = let h = c.requires.work in none-some h.work (sym c.in_default.is ∙ h.is)
