@@ -1,29 +1,26 @@
 -- A post of a pass.
-use Rattle.std.proofs.Common.{◌≡◌, ℕ, ◌+◌, ◌≤◌, ◌<◌, Bool, IsTrue, refl, sym, ap, ◌∙◌, subst, arith, Option, Some, None, get_or-set_same}
+use Rattle.std.proofs.Common.{◌≡◌, ℕ, ◌+◌, ◌≤◌, ◌<◌, Bool, IsTrue, sym, ap, ◌∙◌, subst, arith, Option, Some}
 use Rattle.std.proofs.lemmas.Option.{same_Some}
 use Rattle.atomic_table.specs.Seated.{TableId}
 use Rattle.atomic_table.specs.Table.{rest}
 use Rattle.mi_base.specs.Configuration.{Configuration}
-use Rattle.mi_core.specs.Effects.{paid, post_route, trim_leaf}
+use Rattle.mi_core.specs.Effects.{trim_leaf}
 use Rattle.mi_core.specs.Events.{MayPost as CanPost}
 use Rattle.mi_core.specs.Events.Event.{post, visit}
 use Rattle.mi_core.specs.State.{State, node_at}
-use Rattle.mi_core.proofs.ActorLemmas.{set_there}
-use Rattle.mi_core.proofs.PageLemmas.{within}
 use Rattle.mi_entries.specs.Actors.{Actor}
 use Rattle.mi_entries.specs.Records.{Rows}
 use Rattle.mi_latch.specs.declared.slots.Slot.TheVariants.{OfPage}
 use Rattle.mi_latch.specs.Naming.{names_of}
-use Rattle.mi_latch.specs.PageSteps.{MakesPage}
 use Rattle.mi_latch.specs.Takes.{Finds, see_none, took}
-use Rattle.mi_latch.specs.Views.{Doing, HoldsLast, Seated, Sight}
-use Rattle.mi_latch.proofs.PageMakes.{post_makes}
-use Rattle.mi_page.specs.Keys.{IsInside}
+use Rattle.mi_latch.specs.Views.{Doing, Fits, HoldsLast, Seated, Sight}
 use Rattle.mi_page.specs.Nodes.{Node, item_count}
 use Rattle.mi_solo.specs.declared.rows.ActorRow.{ActorRow}
+use Rattle.mi_solo.specs.OnPages.{TurnsPage}
 use Rattle.mi_solo.specs.Seeking.{EndsAfter, PointsDown, PointsRight}
 use Rattle.mi_solo.specs.Viewing.{shown_to}
 use Rattle.mi_solo.proofs.DescentLemmas.{page_stands, shows_page}
+use Rattle.mi_solo.proofs.PageTurns.{post_event, post_is, posts_keep}
 use Rattle.mi_solo.proofs.RouteEvents.{can_post}
 use Rattle.mi_solo.proofs.RouteSections.{few_routes, routes_stay}
 use Rattle.mi_world.specs.declared.answers.Put.{Put}
@@ -31,35 +28,14 @@ use Rattle.mi_world.specs.declared.answers.Put.TheVariants as put
 use Rattle.mi_world.specs.Pages.{IsChildAt, MayPost, Posts}
 use Rattle.mi_world.specs.View.{View}
 use Rattle.mi_hall.specs.Knowledge.{is_named}
-use Rattle.mi_solo.specs.PageRows.{OnlyNotes, PaysRoute, PostsRow}
+use Rattle.mi_solo.specs.PageRows.{OnlyNotes, PostsRow}
 use Rattle.mi_hall.specs.Passes.{IsPass, PassState, row_actor, turning}
 use Rattle.mi_hall.specs.Places.{IsBacked, PageMakes}
 use Rattle.mi_hall.specs.Seats.{seat_view}
 use Rattle.mi_hall.proofs.NamedPages.{named_as, names_after, names_child}
 use Rattle.mi_hall.proofs.PagePlaces.{posts_done_seated, posts_down_seated, posts_full_seated, posts_right_seated}
-use Rattle.mi_hall.proofs.PageSection.{backed, here, noted_does, noted_tells, turn_makes, turn_names, turn_tells}
+use Rattle.mi_hall.proofs.PageSection.{backed, here, noted_tells, row_gives, row_tells, turn_names}
 use Rattle.mi_hall.proofs.SeatConditions.{child_seated, post_seated}
-
--- the work leaves the shard in hand
-pub posts_shard : (page level key child : ℕ) (n new : Node) (row made : ActorRow) (answer : Put) → PostsRow page level key child answer n row new made → made.shard ≡ row.shard
-posts_shard page level key child n new row made (put.Down p) x = ap (λ (z : ActorRow). z.shard) x.1.row_is
-posts_shard page level key child n new row made (put.Right p) x = ap (λ (z : ActorRow). z.shard) x.1.row_is
-posts_shard page level key child n new row made put.PageFull x = ap (λ (z : ActorRow). z.shard) x.2.row_is
-posts_shard page level key child n new row made put.Done x = ap (λ (z : ActorRow). z.shard) x.1.row_is
-
--- its pin
-pub posts_pin : (page level key child : ℕ) (n new : Node) (row made : ActorRow) (answer : Put) → PostsRow page level key child answer n row new made → made.pin ≡ row.pin
-posts_pin page level key child n new row made (put.Down p) x = ap (λ (z : ActorRow). z.pin) x.1.row_is
-posts_pin page level key child n new row made (put.Right p) x = ap (λ (z : ActorRow). z.pin) x.1.row_is
-posts_pin page level key child n new row made put.PageFull x = ap (λ (z : ActorRow). z.pin) x.2.row_is
-posts_pin page level key child n new row made put.Done x = ap (λ (z : ActorRow). z.pin) x.1.row_is
-
--- and the fresh page
-pub posts_hand : (page level key child : ℕ) (n new : Node) (row made : ActorRow) (answer : Put) → PostsRow page level key child answer n row new made → made.hand.fresh ≡ row.hand.fresh
-posts_hand page level key child n new row made (put.Down p) x = ap (λ (z : ActorRow). z.hand.fresh) x.1.row_is
-posts_hand page level key child n new row made (put.Right p) x = ap (λ (z : ActorRow). z.hand.fresh) x.1.row_is
-posts_hand page level key child n new row made put.PageFull x = ap (λ (z : ActorRow). z.hand.fresh) x.2.row_is
-posts_hand page level key child n new row made put.Done x = ap (λ (z : ActorRow). z.hand.fresh) x.1.row_is
 
 module _ (settings : Configuration) (old m : Seated) (page : ℕ) (had : Node) (a : ℕ) (row : ActorRow) (rows : Option Rows) (told : Bool) (p : IsPass old a row rows told) (is : m ≡ took see_none old (page + 17) (OfPage had))
     (f : Finds settings old.0 (page + 17) (OfPage had)) (table : TableId) (was : PassState) (same : record { sight = old.0; table = table } ≡ was)
@@ -100,34 +76,30 @@ module _ (settings : Configuration) (old m : Seated) (page : ℕ) (had : Node) (
   can ends few = can_post f.core old.0.actor r level key child of_child page had at_page may.low_is ends
       (few_routes had (page_stands f.core f.held.kept page had at_page) (inner ends) (λ e. absurd (omega (arith, few, e))))
 
-  abbrev paying : Actor
-  paying = record old.0.mine.part { page = page; owed = paid child old.0.mine.part.owed }
-
-  abbrev done : Node
-  done = post_route key child had
-
-  -- the child is one of the pages that the seat was told of
-  post_pays : EndsAfter had level key → item_count had < 32 → MakesPage settings old.0.actor old.0.mine page had (post_route key child had) (record old.0.mine.part { page = page; owed = paid child old.0.mine.part.owed }) (names_of had) (post page had key child)
-  post_pays ends few =
+  -- so it is in each state that the seat fits: that the child is linked is known for good
+  can_in : (c : State) → Fits c old.0.actor old.0.mine → EndsAfter had level key → item_count had < 32 → CanPost c had key child
+  can_in c fits ends few =
       let seen = subst (λ (v : Sight). IsChildAt (seat_view v) level key child) sight_is route in
       let y = named_as old.0.mine.named child seen.named in
+      let s = fits.knows.named y.0 y.2 in
       let may_post = can ends few in
-      let low : y.0.low ≡ key = y.4 ∙ seen.low_is in
-      let height : y.0.level + 1 ≡ had.level = ap (λ l. l + 1) y.3 ∙ seen.level_is ∙ sym ends.level in
-      let P : ℕ → ℕ → Type 0 = λ c k. MakesPage settings old.0.actor old.0.mine page had (post_route k c had) (record old.0.mine.part { page = page; owed = paid c old.0.mine.part.owed }) (names_of had) (post page had k c) in
-      subst (λ c. P c key) y.1 (subst (λ k. P y.0.page k) low
-      (post_makes settings old.0.actor old.0.mine page had y.0 y.2 height (subst (IsInside had.low had.high) (sym low) may_post.inside) may_post.space))
+      record {
+        inside = may_post.inside;
+        space = may_post.space;
+        below = s.node;
+        there = subst (λ i. node_at c.pages i ≡ Some s.node) y.1 s.there;
+        level = ap (λ l. l + 1) s.level ∙ ap (λ l. l + 1) y.3 ∙ seen.level_is ∙ sym ends.level;
+        low = s.low ∙ y.4 ∙ seen.low_is;
+      }
 
   module _ (n : Node) (made : ActorRow) where
-    pay_tie : PaysRoute page key child had row n made → record old.0.mine.part { page = page; owed = paid child old.0.mine.part.owed } ≡ row_actor old.0.mine.note.board.settings old.0.mine.part made
-    pay_tie x = ap (λ (z : Actor). let y : Actor = record z { page = page; owed = paid child z.owed } in y) p.row_is ∙ ap (row_actor old.0.mine.note.board.settings old.0.mine.part) (sym x.row_is)
+    -- it is the core's event, of any state that has the page
+    turns : (answer : Put) → PostsRow page level key child answer had row n made → (c : State) → Fits c old.0.actor old.0.mine → node_at c.pages page ≡ Some had
+        → TurnsPage c old.0.actor (row_actor old.0.mine.note.board.settings old.0.mine.part row) (post_event page key child had answer) page n (row_actor old.0.mine.note.board.settings old.0.mine.part made)
+    turns answer x c fits there = post_is c old.0.actor page had n there old.0.mine.note.board.settings old.0.mine.part.own row made level key child (can_in c fits) answer x
 
     pub posts_does : (answer : Put) → PostsRow page level key child answer had row n made → HoldsLast m (page + 17) (OfPage had) → Doing settings m.0 (turning m.0 made n) (page + 17) (OfPage n)
-    posts_does (put.Down q) x last = noted_does settings old m page had a row rows told p is f made x.1.row_is n x.1.same last
-    posts_does (put.Right q) x last = noted_does settings old m page had a row rows told p is f made x.1.row_is n x.1.same last
-    posts_does put.PageFull x last = noted_does settings old m page had a row rows told p is f made x.2.row_is n x.2.same last
-    posts_does put.Done x last = subst (λ (z : Node). Doing settings m.0 (turning m.0 made z) (page + 17) (OfPage z)) (sym x.1.posted)
-        (turn_makes settings old m page had a row rows told p is f done paying made (post page had key child) (post_pays x.0 x.1.few) (pay_tie x.1) last)
+    posts_does answer x = row_gives settings old m page had a row rows told p is f n made (post_event page key child had answer) (posts_keep page level key child had n row made answer x).0 (λ c k set_by fits there. turns answer x c fits there)
 
     module _ (new : Seated) (gave : new ≡ (turning m.0 made n, rest m.1)) where
       known : IsTrue ((seat_view old.0).named page)
@@ -150,10 +122,9 @@ module _ (settings : Configuration) (old m : Seated) (page : ℕ) (had : Node) (
           (λ c v w. IsTrue (v.named page) → node_at c.pages page ≡ Some had → EndsAfter had level key → item_count (trim_leaf v.floor.updates had) ≡ 32 → Posts v w page level key child put.PageFull)
           (posts_full_seated page had level key child) x.2 known at_page x.0 (ap item_count (routes_stay (seat_view old.0).floor.updates had (inner x.0)) ∙ x.1)
       tells put.Done x =
-          let long = within f.core.pages page had at_page in
-          turn_tells settings old m page had a row rows told p is f new made n gave (post page had key child) (λ c v w. IsTrue (v.named page) → had.level ≡ level → Posts v w page level key child put.Done)
-          (posts_done_seated page had level key child) (at_page, can x.0 x.1.few) paying (pay_tie x.1) (set_there f.core.actors old.0.actor paying r back.fits.part)
-          (get_or-set_same f.core.pages page (Some done) None long ∙ ap Some (sym x.1.posted)) refl refl known x.0.level
+          let keeps = posts_keep page level key child had n row made put.Done x in
+          row_tells settings old m page had a row rows told p is f new made n gave (post page had key child) (λ c v w. IsTrue (v.named page) → had.level ≡ level → Posts v w page level key child put.Done)
+          (posts_done_seated page had level key child) (turns put.Done x f.core back.fits at_page) keeps.0 keeps.1 known x.0.level
 
       pub posts_told : (answer : Put) → PostsRow page level key child answer had row n made → Posts (seat_view was.sight) (seat_view new.0) page level key child answer
       posts_told answer x = subst (λ (v : Sight). Posts (seat_view v) (seat_view new.0) page level key child answer) (sym sight_is) (tells answer x)

@@ -101,6 +101,13 @@ trims_keep page n new row made (Down p) x = absurd x
 trims_keep page n new row made (Right p) x = absurd x
 trims_keep page n new row made (Read next) x = (noted_keeps page row made x.2, ap (λ (z : ActorRow). z.page) x.2)
 
+-- so does a row by which a route was paid
+pub posts_keep : (page level key child : ℕ) (n new : Node) (row made : ActorRow) (answer : Put) → PostsRow page level key child answer n row new made → KeepsRow row made × (made.page ≡ page)
+posts_keep page level key child n new row made (put.Down p) x = (noted_keeps page row made x.1.row_is, ap (λ (z : ActorRow). z.page) x.1.row_is)
+posts_keep page level key child n new row made (put.Right p) x = (noted_keeps page row made x.1.row_is, ap (λ (z : ActorRow). z.page) x.1.row_is)
+posts_keep page level key child n new row made put.PageFull x = (noted_keeps page row made x.2.row_is, ap (λ (z : ActorRow). z.page) x.2.row_is)
+posts_keep page level key child n new row made put.Done x = subst (λ (z : ActorRow). KeepsRow row z × (z.page ≡ page)) (sym x.1.row_is) (record { seen = refl; shard = refl; claim = refl; pin = refl; fresh = refl; ended = refl }, refl)
+
 -- a section of a page is an event that makes this of its page and of its actor's record
 pub page_does : (s : State) (a page : ℕ) {makes : Node → ActorRow → Node → ActorRow → Type 0} (t : State) (x : OnPage s a page makes t) (e : Event)
     → TurnsPage s a (actor_of s.board.settings s.board.log a x.row) e page x.new (actor_of s.board.settings s.board.log a x.made) → Does s a e t

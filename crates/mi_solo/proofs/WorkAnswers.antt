@@ -1,5 +1,5 @@
 -- The event that each section of a splitter is, by its answer, and what the trait tells of it.
-use Rattle.std.proofs.Common.{◌≡◌, ◌≤◌, ◌∙◌, ℕ, Bool, IsTrue, ap, length, refl, subst, sym, Some, Result, Ok, Err}
+use Rattle.std.proofs.Common.{◌≡◌, ◌≤◌, ◌∙◌, ℕ, Bool, ap, length, refl, subst, sym, Result, Ok, Err}
 use Rattle.std.specs.Prelude.{IsSome}
 use Rattle.std.proofs.lemmas.Option.{get_or_from_slice_get}
 use Rattle.mi_base.specs.declared.refusals.NoMemory.{NoMemory}
@@ -10,7 +10,7 @@ use Rattle.mi_core.specs.Kept.{Kept}
 use Rattle.mi_base.specs.declared.records.Position.{Position}
 use Rattle.mi_base.specs.History.{end_of}
 use Rattle.mi_core.specs.Pages.{node_or_fresh}
-use Rattle.mi_core.specs.State.{State, node_at}
+use Rattle.mi_core.specs.State.{State}
 use Rattle.mi_entries.specs.Actors.{Actor}
 use Rattle.mi_page.specs.Nodes.{Node}
 use Rattle.mi_tree.specs.declared.answers.Work.{Work}
@@ -27,7 +27,7 @@ use Rattle.mi_solo.specs.OnBoards.{OnBoard}
 use Rattle.mi_solo.specs.LeafRows.{SweepsRow, swept_mark}
 use Rattle.mi_solo.specs.OnPages.{OnPage}
 use Rattle.mi_solo.specs.Seeking.{EndsAfter, PointsDown, PointsRight, ReadsOn}
-use Rattle.mi_solo.specs.States.{Does, IsGoing, actor_in, actor_of, is_linked, node_in, state_of, view_in}
+use Rattle.mi_solo.specs.States.{Does, IsGoing, actor_in, actor_of, node_in, state_of, view_in}
 use Rattle.mi_solo.specs.Viewing.{swept_leaf, swept_to}
 use Rattle.mi_solo.specs.Solos.{view_of}
 use Rattle.mi_solo.proofs.BoardTurns.{board_does, publish_event, publish_is, work_event, work_is}
@@ -35,7 +35,6 @@ use Rattle.mi_solo.proofs.CoreLemmas.{there}
 use Rattle.mi_solo.specs.GatherRows.{GathersPage, row_work}
 use Rattle.mi_solo.proofs.GatherRows.{gather_event, gather_is, row_last, row_mark}
 use Rattle.mi_solo.proofs.GatherEvents.{can_gather, can_start, gathers_down, gathers_memory, gathers_on, gathers_right}
-use Rattle.mi_solo.proofs.PageAnswers.{page_is}
 use Rattle.mi_solo.proofs.GatheredLemmas.{may_publish}
 use Rattle.mi_solo.proofs.PageTurns.{page_does}
 use Rattle.mi_solo.proofs.PublishSections.{leaf_enters}

@@ -1,7 +1,8 @@
 //! Sections of the board, with the board and its actor's row in hand.
 ghost use Rattle.std.specs.Prelude.{◌≡◌, ◌<◌, None, length};
 ghost use Rattle.mi_board.specs.Actors.{actor_at};
-ghost use Rattle.mi_solo.specs.BoardRows.{AllotsRow, ClaimsRow, MayEnter, PinsRow, PublishesRow, SweepFits, WorksRow};
+ghost use Rattle.mi_solo.specs.BoardRows.{AllotsRow, ClaimsRow, MayEnter, PinsRow};
+ghost use Rattle.mi_solo.specs.BoardRows.{PublishesRow, SweepFits, WorksRow};
 
 use crate::cell_keys::first_key;
 use crate::placing::placed_objects;

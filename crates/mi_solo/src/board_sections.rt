@@ -57,7 +57,8 @@ impl Core {
         requires long { length perm.now ≡ length self.old.board.settings.pivots }
         requires free { (actor_in (state_of self.old) actor).claim ≡ None }
         requires idle { (actor_in (state_of self.old) actor).sweep ≡ None }
-        ensures { OnBoard (state_of self.old) actor (ClaimsRow actor perm.now result) (state_of self.new) }
+        ensures { OnBoard (state_of self.old) actor (ClaimsRow actor perm.now result)
+            (state_of self.new) }
     {
         let me = &mut self.actors[actor as usize];
         claim_row(actor, perm, &mut self.board, me)

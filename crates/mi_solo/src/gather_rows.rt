@@ -1,6 +1,7 @@
 //! The gather of a page, with the page and its actor's row in hand.
 ghost use Rattle.std.specs.Prelude.{◌≡◌, ◌≤◌};
-ghost use Rattle.mi_solo.specs.GatherRows.{GathersHere, GathersRow, HasWork, IsClaiming, StartsRow, row_work};
+ghost use Rattle.mi_solo.specs.GatherRows.{GathersHere, GathersRow, HasWork, IsClaiming};
+ghost use Rattle.mi_solo.specs.GatherRows.{StartsRow, row_work};
 ghost use Rattle.mi_solo.specs.Seeking.{HasSibling};
 
 use crate::cell_keys::{cell_keys, end_key, first_key};

@@ -37,7 +37,8 @@ impl Core {
         requires ready { MayGather (view_in (state_of self.old) actor) }
         requires linked { IsTrue (is_linked (state_of self.old) page) }
         requires low { (node_in (state_of self.old) page).low ≤ gather_key (view_in (state_of self.old) actor) }
-        ensures { OnPage (state_of self.old) actor page (GathersPage self.old.board.settings page result) (state_of self.new) }
+        ensures { OnPage (state_of self.old) actor page
+            (GathersPage self.old.board.settings page result) (state_of self.new) }
     {
         let Some(node) = &self.pages[page as usize] else {
             unreachable!();
@@ -74,7 +75,8 @@ impl Core {
         requires kept { Kept (state_of self.old) }
         requires whole { IsGathered (view_in (state_of self.old) actor) }
         requires copied { (view_in (state_of self.old) actor).copied ≡ length (view_in (state_of self.old) actor).copies }
-        ensures { OnBoard (state_of self.old) actor (PublishesRow actor result) (state_of self.new) }
+        ensures { OnBoard (state_of self.old) actor (PublishesRow actor result)
+            (state_of self.new) }
     {
         let me = &mut self.actors[actor as usize];
         publish_row(alloc, actor, &mut self.board, me)

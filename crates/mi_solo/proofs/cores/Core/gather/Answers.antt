@@ -1,5 +1,4 @@
-use Rattle.std.proofs.Common.{◌≡◌, ◌≤◌, ◌∙◌, refl, sym, ap, subst, set, Some}
-use Rattle.std.proofs.lemmas.List.{set-get_or}
+use Rattle.std.proofs.Common.{◌≤◌, refl, sym, ap, subst}
 use Rattle.mi_base.specs.Configuration.{Configuration}
 use Rattle.mi_entries.specs.Actors.{Actor}
 use Rattle.mi_page.specs.Nodes.{Node}
