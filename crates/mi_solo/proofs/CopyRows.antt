@@ -100,10 +100,6 @@ copy_taken c page n new row made place e is x ends put.Done h = (
   subst (λ k. PutsCopy page k e n row new made) is h,
 )
 
--- the key of the last copy
-pub last_row_key : (c : Configuration) (row : ActorRow) (place : ℕ) (e : Entry) → place ≡ copied_by row - 1 → IsRowCopy c row place e → e.key ≡ copy_key c row (copied_by row - 1)
-last_row_key c row place e is x = row_key c row place e x ∙ ap (copy_key c row) is
-
 -- the copy of what is gathered at a place
 pub has_copy : (c : Configuration) (row : ActorRow) → IsSplitting c row → (place : ℕ) → place < length (gathered_by row) → (e : Entry) × IsRowCopy c row place e
 has_copy c row works place low =

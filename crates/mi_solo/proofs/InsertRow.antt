@@ -1,9 +1,6 @@
 -- What an insert may rely on of what is in hand.
-use Rattle.std.proofs.Common.{◌≡◌, ◌⊎◌, ℕ, ℤ, ◌<◌, ◌≤◌, ◌==◌, ◌^◌, List, length, true, false, refl, sym, ap, ◌∙◌, subst, Option, Some, None}
-use Rattle.std.specs.Prelude.{IsSome}
-use Rattle.std.specs.List.{find}
+use Rattle.std.proofs.Common.{◌≡◌, ℕ, ℤ, ◌<◌, ◌≤◌, ◌^◌, List, length, true, false, sym, ap, ◌∙◌, subst, Option, Some}
 use Rattle.mi_base.specs.Configuration.{space_of}
-use Rattle.mi_base.specs.History.{updates_of}
 use Rattle.mi_base.specs.Permutations.{distances, key_distance, permutation_of}
 use Rattle.mi_base.specs.Prefixes.{all_below}
 use Rattle.mi_board.specs.Boards as board
@@ -12,7 +9,6 @@ use Rattle.mi_core.specs.Effects.{trim_leaf}
 use Rattle.mi_core.specs.Events.{CanInsert}
 use Rattle.mi_core.specs.Pages.{node_or_fresh}
 use Rattle.mi_core.specs.State.{State}
-use Rattle.mi_core.proofs.RefusalLemmas.{room_or_full}
 use Rattle.mi_entries.specs.Actors.{Actor}
 use Rattle.mi_entries.specs.Entries.{grid}
 use Rattle.mi_entries.specs.Records.{Rows, home}
@@ -22,8 +18,7 @@ use Rattle.mi_page.specs.Nodes.{Node, item_count}
 use Rattle.mi_solo.specs.declared.rows.ActorRow.{ActorRow}
 use Rattle.mi_solo.specs.Seeking.{EndsAfter, HasSibling}
 use Rattle.mi_solo.specs.Viewing.{shown_to}
-use Rattle.mi_solo.proofs.CanLemmas.{can_insert, insert_absent, insert_board, insert_commits, unrecorded}
-use Rattle.mi_solo.proofs.CommitEvents.{held_leaf}
+use Rattle.mi_solo.proofs.CanLemmas.{can_insert, insert_absent, insert_board, insert_commits}
 use Rattle.mi_solo.proofs.DescentLemmas.{has_sibling}
 use Rattle.mi_solo.proofs.KeyLemmas.{claim_fits, insert_fits}
 use Rattle.mi_solo.proofs.RouteLaws.{full_kept}
@@ -61,28 +56,17 @@ module _ (a page id : ℕ) (vector : List ℤ) (dists : List ℕ) (b : BoardStat
   pub enter_measured : dists ≡ distances (space_of b.settings) vector
   enter_measured = on (λ z. dists ≡ distances (space_of z.settings) vector) m.may.measured
 
-  pub enter_absent : find (λ x. x.id == id) rows.records ≡ None
-  enter_absent = subst (λ (x : Rows). find (λ y. y.id == id) x.records ≡ None) m.hand.rows_are (unrecorded s.shards r.shard (home id) id m.may.shard m.may.absent)
-
   pub enter_room : length rows.records < rows.room
   enter_room = subst (λ (x : Rows). length x.records < x.room) m.hand.rows_are (((m.hand.kept.sound.each a r m.hand.there).holds.room (home id) m.may.shard m.may.reserved).1)
 
   pub enter_sibling : HasSibling n
   enter_sibling = has_sibling s m.hand.kept page n m.hand.page_is
 
-  pub enter_claims : IsSome row.claim
-  enter_claims =
-      let held = held_leaf (permutation_of dists) r.claim m.may.leaf in
-      subst IsSome (sym (sym claim_is ∙ held.1)) refl
-
   pub enter_fits : (p : List ℕ) → row.claim ≡ Some p → (length p ≤ b.settings.levels) × (all_below (length b.settings.pivots) p ≡ true)
   enter_fits p e = on (λ z. (length p ≤ z.settings.levels) × (all_below (length z.settings.pivots) p ≡ true)) (claim_fits s m.hand.kept a r m.hand.there p (claim_is ∙ e))
 
   pub enter_small : (key_distance dists < 2 ^ 27) × (next_birth b < 2 ^ 30)
   enter_small = on (λ z. (key_distance dists < 2 ^ 27) × (next_birth z < 2 ^ 30)) (insert_fits s m.hand.kept a r m.hand.there id vector dists m.may)
-
-  pub enter_room_or_full : (length (updates_of b.log) < b.settings.updates) ⊎ (length (updates_of b.log) ≡ b.settings.updates)
-  enter_room_or_full = on (λ z. (length (updates_of z.log) < z.settings.updates) ⊎ (length (updates_of z.log) ≡ z.settings.updates)) (room_or_full s m.hand.kept.sound a r m.hand.there)
 
   pub enter_whole : item_count (trim_leaf row.floor.updates n) ≡ 32 → trim_leaf row.floor.updates n ≡ n
   enter_whole = full_kept s m.hand.kept page n m.hand.page_is row.floor.updates

@@ -35,7 +35,6 @@ pub mod RouteAnswers
 pub mod PageLemmas
 pub mod InsertSection
 pub mod WorkSections
-pub mod WayLemmas
 pub mod SweepSections
 pub mod DeleteSection
 pub mod RouteSections

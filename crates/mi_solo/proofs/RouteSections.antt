@@ -1,14 +1,13 @@
 -- What sections of routes owe to hands and pages, and what they make of the state.
-use Rattle.std.proofs.Common.{◌≡◌, ◌≢◌, ℕ, ◌<◌, ◌≤◌, ◌==◌, length, get_or, set, cond, true, false, IsTrue, refl, sym, ap, ◌∙◌, subst, arith, Option, Some, None, inl, inr}
+use Rattle.std.proofs.Common.{◌≡◌, ◌≢◌, ℕ, ◌<◌, ◌≤◌, ◌==◌, length, get_or, set, cond, true, false, refl, sym, ap, ◌∙◌, subst, arith, Some, None, inl, inr}
 use Rattle.std.specs.Prelude.{Bool}
 use Rattle.std.proofs.lemmas.Bool.{cases_lt, ne_eqb}
 use Rattle.std.proofs.lemmas.List.{length-map}
 use Rattle.mi_board.specs.Boards.{BoardState, grown}
-use Rattle.mi_core.specs.Effects.{noted, paid, saw, trim_leaf, trim_node}
+use Rattle.mi_core.specs.Effects.{paid, saw, trim_leaf, trim_node}
 use Rattle.mi_core.specs.Events.{Can, hand}
-use Rattle.mi_core.specs.Events.Event.{grow, visit}
+use Rattle.mi_core.specs.Events.Event.{grow}
 use Rattle.mi_core.specs.Kept.{Kept}
-use Rattle.mi_core.specs.State.{node_at}
 use Rattle.mi_entries.specs.Actors.{Actor}
 use Rattle.mi_key.specs.declared.entries.Entry.{Entry}
 use Rattle.mi_page.specs.declared.routes.Route.{Route}
@@ -16,10 +15,8 @@ use Rattle.mi_page.specs.Nodes.{IsNode, Node, item_count, root_node}
 use Rattle.mi_solo.specs.declared.cores.Core.{Core}
 use Rattle.mi_solo.specs.declared.rows.ActorRow.{ActorRow}
 use Rattle.mi_solo.specs.InHand.{InHand}
-use Rattle.mi_solo.specs.States.{Does, actor_in, actor_of, actors_of, is_linked, node_in, state_of}
+use Rattle.mi_solo.specs.States.{Does, actor_in, actor_of, actors_of, state_of}
 use Rattle.mi_solo.proofs.CoreLemmas.{comes_to, log_of, row_is, suits}
-use Rattle.mi_solo.proofs.PageLemmas.{node_here, page_here}
-use Rattle.mi_solo.proofs.ShardSections.{set_read}
 
 -- a page of routes isn't trimmed
 pub routes_stay : (floor : ℕ) (n : Node) → 0 < n.level → trim_leaf floor n ≡ n
@@ -72,31 +69,3 @@ module _ (c : Core) (a : ℕ) (known : a < length c.actors.items) (k : Kept (sta
               new (λ (r : Actor). record (saw c.board r) { fresh = None; owed = paid child r.owed })
               (ap (actor_of c.board.settings c.board.log a) e ∙ log_of c.board.settings c.board.log b to becomes a (λ m. record row { seen = m; hand = held }) ∙ ap (λ h. actor_of c.board.settings c.board.log a (record row { seen = length c.board.log; hand = h })) held_is);
         }
-
--- a linked page that was read
-module _ (c : Core) (a : ℕ) (known : a < length c.actors.items) (row : ActorRow) (at : row ≡ get_or c.actors.items a row)
-    (page : ℕ) (linked : IsTrue (is_linked (state_of c) page)) (read : Option Node) (was : read ≡ get_or c.pages.items page read) (node : Node) (is : read ≡ Some node) where
-  here : node_at (state_of c).pages page ≡ Some node
-  here = page_here c page linked read was node is
-
-  same : node_in (state_of c) page ≡ node
-  same = node_here c page linked read was node is
-
-  floor : (actor_in (state_of c) a).floor.updates ≡ row.floor.updates
-  floor = ap (λ (r : Actor). r.floor.updates) (row_is c a known row at)
-
-  back : set c.pages.items page (Some node) ≡ c.pages.items
-  back = ap (set c.pages.items page) (sym is) ∙ set_read c.pages.items page read was
-
-  -- what is left of the page after a trim
-  pub trim_seen : (trimmed : Node) → trimmed ≡ trim_leaf row.floor.updates node → trimmed ≡ trim_leaf (actor_in (state_of c) a).floor.updates (node_in (state_of c) page)
-  trim_seen trimmed t = t ∙ ap (λ f. trim_leaf f node) (sym floor) ∙ ap (trim_leaf (actor_in (state_of c) a).floor.updates) (sym same)
-
-  module _ (new : ActorRow) (e : new ≡ record row { page = page }) where
-    -- the page stays as it was
-    pub is_visited : (left : Node) → left ≡ node → Does (state_of c) a (visit page) (record { board = c.board; shards = c.shards.items; pages = set c.pages.items page (Some left); actors = actors_of c.board.settings c.board.log 0 (set c.actors.items a new) })
-    is_visited left stays = record {
-      can = (node, here);
-      is = comes_to c a known row at c.board c.board refl refl (λ m n. refl) c.shards.items c.shards.items refl (set c.pages.items page (Some left)) c.pages.items (ap (λ n. set c.pages.items page (Some n)) stays ∙ back)
-          new (noted page) (ap (actor_of c.board.settings c.board.log a) e);
-    }
