@@ -1,8 +1,9 @@
 -- A crew as its workers are added one after another.
-use Rattle.std.proofs.Common.{◌≡◌, ℕ, suc, ◌+◌, ◌<◌, List, [], ◌∷◌, ◌++◌, map, length, Bool, true, false, ◌||◌, Some, refl, sym, ap, ◌∙◌, subst, arith, inl, inr}
+use Rattle.std.proofs.Common.{◌≡◌, ℕ, suc, ◌+◌, ◌<◌, List, [], ◌∷◌, ◌++◌, map, reverse, length, Bool, true, false, ◌||◌, Some, refl, sym, ap, ◌∙◌, subst, arith, inl, inr}
 use Rattle.std.specs.Prelude.{◌==◌, slice_get, slice_index_or, take}
 use Rattle.std.specs.List.{AllByRecursion, AllZip}
 use Rattle.std.proofs.lemmas.Bool.{false≢true}
+use Rattle.std.proofs.lemmas.Grind.{reverse_onto}
 use Rattle.std.proofs.lemmas.Bool.Decides.{eqb_tells}
 use Rattle.atomic_table.specs.Seated.{TableId}
 use Rattle.mi_base.specs.declared.records.Op.{Op}
@@ -49,6 +50,12 @@ zip_more R [] [] x y all one = (one, tt)
 zip_more R (a ∷ xs) (b ∷ ys) x y all one = (all.0, zip_more R xs ys x y all.1 one)
 zip_more R [] (b ∷ ys) x y all one = absurd all
 zip_more R (a ∷ xs) [] x y all one = absurd all
+
+pub zip_reverse : {X Y : Type 0} (R : X → Y → Type 0) (xs : List X) (ys : List Y) → AllZip R xs ys → AllZip R (reverse xs) (reverse ys)
+zip_reverse R [] [] all = tt
+zip_reverse R (x ∷ xs) (y ∷ ys) all = rw (reverse_onto xs x [], reverse_onto ys y []) (zip_more R (reverse xs) (reverse ys) x y (zip_reverse R xs ys all.1) all.0)
+zip_reverse R [] (y ∷ ys) all = absurd all
+zip_reverse R (x ∷ xs) [] all = absurd all
 
 pub made_none : {R : Type 0} → (p : PassState) → IsNew (place_view p).settings (place_view p) → (place_view p).actor ≡ 0 → HasMade {R = R} (place_view p).settings p.table p []
 made_none p new zero = record {

@@ -26,7 +26,7 @@ use std::thread::{self, Threads};
 /// Runs each script in a thread of its own, and beside them one that splits and sweeps, on an empty
 /// index, which is then settled. Actor 0 serves the first script, and the last one is the splitter;
 /// each passes the gate between its sections. Where a thread can't be made, its work is done by
-/// another.
+/// another, that of the splitter last.
 pub fn run<R: Threads + Wait + Sync, M: Metric + Sync, G: Gate>(
     rt: &R,
     alloc: Global,
@@ -77,8 +77,28 @@ fn in_hall<R: Threads + Wait + Sync, M: Metric + Sync, G: Gate>(
     gather(scripts, workers, replies)
 }
 
-/// Lets each worker work in a thread of its own.
+/// Lets each worker work in a thread of its own, where one can be made.
 fn work_all<'h, 's, R: Threads + Wait + Sync, M: Metric + Sync, G: Gate>(
+    rt: &R,
+    alloc: Global,
+    workers: &mut [Worker<'h, 's, R>],
+    metric: &M,
+    pivots: &Pivots,
+    gate: &G,
+)
+    requires some { 1 ≤ length workers.old }
+    requires may { AllByRecursion (MayWork (M.space metric.now) pivots.now) workers.old }
+    ensures { HaveWorked workers.old workers.new }
+{
+    // Where no thread can be made they work one after another, the last one first: so the splitter's,
+    // which waits until all others have left, stands first meanwhile.
+    workers.reverse();
+    work_beside(rt, alloc, workers, metric, pivots, gate);
+    workers.reverse();
+}
+
+/// Lets each of these workers work in a thread of its own, where one can be made.
+fn work_beside<'h, 's, R: Threads + Wait + Sync, M: Metric + Sync, G: Gate>(
     rt: &R,
     alloc: Global,
     workers: &mut [Worker<'h, 's, R>],

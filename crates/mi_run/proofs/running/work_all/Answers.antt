@@ -1,13 +1,14 @@
-use Rattle.std.proofs.Common.{subst, arith}
-use Rattle.std.specs.Prelude.{slice_index_or}
+use Rattle.std.proofs.Common.{reverse, subst, sym}
+use Rattle.std.specs.List.{AllZip}
+use Rattle.std.proofs.lemmas.List.{reverse-reverse}
 use Rattle.mi_run.specs.Workers.{HasWorked}
-use Rattle.mi_run.proofs.CrewLemmas.{zip_from}
+use Rattle.mi_run.proofs.CrewLemmas.{zip_reverse}
 use Rattle.mi_run.proofs.running.work_all.Goals as goal
 
 pub returns : goal.returns
 returns g c =
     let olds = c.args.workers.now in
-    let news = c.for_each_mut.new.s in
-    zip_from HasWorked olds news (omega (arith, c.for_each_mut.auto.s)) (λ i d lt.
-    let at = (c.for_each_mut.ensures i d lt).1 in
-    subst (λ x. HasWorked x (slice_index_or news i d)) at.argument_is (subst (HasWorked at.argument.now) at.left at.call))
+    let news = c.work_beside.new.workers in
+    let z : AllZip HasWorked (reverse olds) news = subst (λ l. AllZip HasWorked l news) c.reverse.ensures.after c.work_beside.ensures in
+    subst (λ l. AllZip HasWorked olds l) (sym c.reverse-2.ensures.after)
+    (subst (λ l. AllZip HasWorked l (reverse news)) (reverse-reverse olds) (zip_reverse HasWorked (reverse olds) news z))
