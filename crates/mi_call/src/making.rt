@@ -35,7 +35,8 @@ fn outcome_of(alloc: Global, seed: u64) -> Result<Outcome, NoMemory>
     )
 }
 
-/// Replays the workload of a number, and sends what comes of it: its figures, or the line of want of memory.
+/// Replays the workload of a number, and sends what comes of it: its figures, or the line of want
+/// of memory.
 fn tell<S: Sink>(alloc: Global, seed: u64, out: &mut S) -> Status
     ensures { Made (Some seed) (S.state out.old) (S.state out.new) result }
 {
@@ -67,8 +68,8 @@ fn answer_make<S: Sink>(alloc: Global, words: &[String], out: &mut S) -> Status
     }
 }
 
-/// Makes the workload of a number, replays it, and tells the figures of what comes of it. The words are those behind the
-/// program's name. It reads no file.
+/// Makes the workload of a number, replays it, and tells the figures of what comes of it. The words
+/// are those behind the program's name. It reads no file.
 pub fn make_call<S: Sink>(alloc: Global, words: &[String], out: &mut S) -> u8
     // What is said, and which status and which bytes come of it.
     ensures answered { MakeAnswered (seed_in (map string_bytes words.now)) (S.state out.old) (S.state out.new) result }

@@ -35,7 +35,8 @@ fn send_pivots<S: Sink>(
     Ok(())
 }
 
-/// Sends the chosen objects, how far they leave the others, and how far apart they are. It takes no memory.
+/// Sends the chosen objects, how far they leave the others, and how far apart they are. It takes no
+/// memory.
 pub fn send_choice<S: Sink>(
     objects: &VectorList,
     choice: &Choice,

@@ -92,8 +92,8 @@ fn check_position(
     Ok(())
 }
 
-/// Reads the history, holds each event against what may follow those before it, and each reply against a scan at its position. Gives
-/// the number of events up to each update.
+/// Reads the history, holds each event against what may follow those before it, and each reply
+/// against a scan at its position. Gives the number of events up to each update.
 fn check_history(
     alloc: Global,
     lines: &mut Unread<'_>,

@@ -87,7 +87,8 @@ fn bound(alloc: Global, to_query: &[i64], leaf: &str, hull: Hull) -> Result<Opti
     Ok(None)
 }
 
-/// At every pivot the distances of the object and of the query are no farther apart than the radius.
+/// At every pivot the distances of the object and of the query are no farther apart than the
+/// radius.
 fn is_candidate(pivots: &[[i64; 2]], to_query: &[i64], point: [i64; 2], radius: i64) -> bool {
     for (pivot, own) in pivots.iter().zip(to_query) {
         let apart = own.saturating_sub(distance(*pivot, point));
@@ -156,7 +157,8 @@ impl<'a> Scans<'a> {
         with_rows(alloc, head.as_str(), rows.as_slice())
     }
 
-    /// How many leaves have a bound that isn't greater than the distance, or have a bound, where no distance is given.
+    /// How many leaves have a bound that isn't greater than the distance, or have a bound, where no
+    /// distance is given.
     fn opened(&self, alloc: Global, query: [i64; 2], farthest: Option<i64>) -> Result<usize, Fail> {
         let to_query = distances(alloc, self.setting.pivots, query)?;
         let mut cells = 0usize;

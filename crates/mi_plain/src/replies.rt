@@ -55,7 +55,7 @@ pub fn number_at(numbers: &[u64], place: usize) -> Result<u64, Fail> {
     Ok(numbers.get(place).copied().ok_or("one number more")?)
 }
 
-/// What was found is what is wanted.
+/// An error that tells both texts, unless what was found is what is wanted.
 pub fn same(found: &str, wanted: &str) -> Result<(), Fail> {
     if found == wanted {
         Ok(())
@@ -64,7 +64,7 @@ pub fn same(found: &str, wanted: &str) -> Result<(), Fail> {
     }
 }
 
-/// It holds.
+/// An error with these words, unless it holds.
 pub fn holds(it: bool, what: &'static str) -> Result<(), Fail> {
     if it { Ok(()) } else { Err(Fail::new(what)) }
 }

@@ -21,11 +21,13 @@ pub struct Placed {
     pub permutation: String,
 }
 
-/// The least and the greatest key distance of the objects that were put into a leaf, where there was one.
+/// The least and the greatest key distance of the objects that were put into a leaf, where there
+/// was one.
 pub type Hull = Option<(i64, i64)>;
 
-/// What the definitions say of an index. Prefixes and permutations are texts of one digit for each pivot with points between them,
-/// so that a prefix begins a permutation as text, and the order of prefixes is that of their texts.
+/// What the definitions say of an index. Prefixes and permutations are texts of one digit for each
+/// pivot with points between them, so that a prefix begins a permutation as text, and the order of
+/// prefixes is that of their texts.
 #[derive(Drop)]
 pub struct Scans<'a> {
     pub setting: &'a Setting,

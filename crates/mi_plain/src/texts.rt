@@ -3,7 +3,8 @@
 use std::alloc::Global;
 use std::test::Fail;
 
-/// Lines that are written once for each number from the first to the last. In them `#` is the number, and `@` its place from 1.
+/// Lines that are written once for each number from the first to the last. In them `#` is the
+/// number, and `@` its place from 1.
 pub type Lines = &'static [(&'static str, u64, u64)];
 
 /// A line with its number and its place.

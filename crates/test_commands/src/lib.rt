@@ -1,4 +1,5 @@
-//! Tests of the commands, from their words to their status and their text, and of the system's files.
+//! Tests of the commands, from their words to their status and their text, and of the system's
+//! files.
 #![tactic(auto)]
 
 #[cfg(test)]

@@ -1,4 +1,5 @@
-//! Tests of several sessions, from their scripts to their transcript: after schedules and in threads.
+//! Tests of several sessions, from their scripts to their transcript: after schedules and in
+//! threads.
 #![tactic(auto)]
 
 #[cfg(test)]

@@ -1,5 +1,5 @@
-//! Workloads of several sessions, under schedules and in threads, whose transcripts are held against
-//! the plain program, event by event.
+//! Workloads of several sessions, under schedules and in threads, whose transcripts are held
+//! against the plain program, event by event.
 
 use mi_call::{replay_call, run_call};
 use mi_outside::{Gate, GatePoint, MemoryFiles, MemorySink};

@@ -5,10 +5,12 @@ use std::alloc::Global;
 use std::process::Abort;
 use std::test::Fail;
 
-/// Settings, script and the lines of the replies, up to the history. The first three are without pivots, among them an index where no object was put yet, and one whose
-/// objects are all gone. Then come leaves that are opened where their bound is the last row's distance and not where it is greater by
-/// one: by the hull, by half of an odd difference, and by the second pivot of a prefix. Where there are too few objects, the leaves
-/// are opened that ever had one. The last three have the other metrics.
+/// Settings, script and the lines of the replies, up to the history. The first three are without
+/// pivots, among them an index where no object was put yet, and one whose objects are all gone.
+/// Then come leaves that are opened where their bound is the last row's distance and not where it
+/// is greater by one: by the hull, by half of an odd difference, and by the second pivot of a
+/// prefix. Where there are too few objects, the leaves are opened that ever had one. The last three
+/// have the other metrics.
 static NEAREST_CASES: [(&[u8], &str, &str); 11] = [
     (
         PLANE,
@@ -67,7 +69,8 @@ static NEAREST_CASES: [(&[u8], &str, &str); 11] = [
     ),
 ];
 
-/// The same where objects at the last row's distance arrive by descending, ascending and mixed identifiers, first without pivots.
+/// The same where objects at the last row's distance arrive by descending, ascending and mixed
+/// identifiers, first without pivots.
 static TIE_CASES: [(&[u8], &str, &str); 6] = [
     (
         PLANE,
