@@ -175,7 +175,7 @@ fn check_refusals(
     sessions: &[Vec<Printed>],
     has_pages: bool,
 ) -> Result<(), Fail> {
-    let has_updates = scans.updates < scans.setting.updates;
+    let has_updates = scans.updates != scans.setting.updates;
     for replies in sessions {
         for printed in replies.as_slice() {
             let text = printed.text.as_str();
@@ -207,7 +207,7 @@ fn check_end(
     if taken < limit {
         check_splits(scans)?;
     }
-    check_refusals(scans, sessions, taken < limit)?;
+    check_refusals(scans, sessions, taken != limit)?;
     holds(lines.is_empty(), "one line too many")
 }
 
