@@ -382,7 +382,7 @@ told_schedule files (Some name) None other t h = absurd t
 told_schedule files None text (Some other) t h = absurd h
 told_schedule files (Some name) text None t h = absurd h
 
-told_inputs : (files : FilesState) (names : Names) (texts others : Texts) → Tells files names texts → AreTextsOf files names others → inputs_of others ≡ inputs_of texts
+pub told_inputs : (files : FilesState) (names : Names) (texts others : Texts) → Tells files names texts → AreTextsOf files names others → inputs_of others ≡ inputs_of texts
 told_inputs files names texts others t h =
     ap (λ w. inputs_of (record { settings = w; schedule = others.schedule; scripts = others.scripts })) (told_text (files.content names.settings) texts.settings others.settings t.settings h.settings)
     ∙ ap (λ w. inputs_of (record { settings = texts.settings; schedule = w; scripts = others.scripts })) (told_schedule files names.schedule texts.schedule others.schedule t.schedule h.schedule)

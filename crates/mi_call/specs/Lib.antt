@@ -4,6 +4,5 @@ pub mod Loading
 pub mod Meaning
 pub mod Statuses
 pub mod Choosing
-pub mod ChooseLoading
 pub mod Making
 pub mod Commands

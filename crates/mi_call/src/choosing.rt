@@ -8,52 +8,22 @@ ghost use Rattle.mi_base.specs.Space.{MetricSpace};
 ghost use Rattle.mi_choose.specs.Farthest.{IsFarthestFirst};
 ghost use Rattle.mi_outside.specs.Outside.{KeepsContents};
 ghost use Rattle.mi_call.specs.Calls.{Answered, Answers};
-ghost use Rattle.mi_call.specs.ChooseLoading.{LoadsCandidates, MayChoose, inputs_in};
 ghost use Rattle.mi_call.specs.Choosing.{ChooseCompletes, ChooseSays, Proposed, choose_words_in, objects_of};
+ghost use Rattle.mi_call.specs.Loading.{MayRun, inputs_in};
 
 use crate::endings::{ended, stopped};
-use crate::loading::{load_script, load_settings, metric_of};
+use crate::loading::{Loaded, load};
 use crate::proposals::send_choice;
-use crate::refusals::Stop;
 use crate::statuses::Status;
 use crate::texts::{send_memory, send_usage};
-use mi_base::{MAX_PIVOTS, NoMemory, Op, Script, Settings, Steps, VectorList};
+use mi_base::{MAX_PIVOTS, NoMemory, Op, Script, Steps, VectorList};
 use mi_choose::{Choice, choose};
 use mi_input::count;
 use mi_metric::Metric;
 use mi_outside::{Files, Sink};
-use mi_table::AnyMetric;
 use std::alloc::Global;
 use std::marker::Brand;
 use std::sync::ledger::{Blank, Ledger};
-
-/// What pivots are chosen from.
-#[derive(Drop)]
-pub struct Candidates {
-    pub settings: Settings,
-    pub metric: AnyMetric,
-    pub script: Script,
-}
-
-/// Reads the settings, and then the script.
-fn load_candidates<F: Files>(
-    alloc: Global,
-    settings_name: &str,
-    script_name: &str,
-    files: &mut F,
-) -> Result<Candidates, Stop>
-    ensures loads { LoadsCandidates (record { settings = settings_name.now; script = script_name.now }) (F.state files.old) (F.state files.new) result }
-    ensures contents { KeepsContents (F.state files.old) (F.state files.new) }
-{
-    let settings = load_settings(alloc, settings_name, files)?;
-    let metric = metric_of(alloc, &settings)?;
-    let script = load_script(alloc, script_name, 1, &settings, files)?;
-    Ok(Candidates {
-        settings,
-        metric,
-        script,
-    })
-}
 
 /// The vectors of the insert records, in their order.
 fn objects_of(alloc: Global, script: &Script) -> Result<VectorList, NoMemory>
@@ -109,17 +79,18 @@ fn choice_of<M: Metric>(
     choose_with::<M, Brand>(alloc, metric, objects, count, Blank::new(1))
 }
 
-/// Chooses, and sends what comes of it: the choice, or the line of want of memory.
-fn propose<S: Sink>(alloc: Global, candidates: &Candidates, count: u32, out: &mut S) -> Status
-    requires candidates { MayChoose candidates.now }
+/// Chooses among the objects of the script, and sends what comes of it: the choice, or the line of
+/// want of memory.
+fn propose<S: Sink>(alloc: Global, inputs: &Loaded, count: u32, out: &mut S) -> Status
+    requires may { MayRun inputs.now }
     requires some { 1 ≤ count }
     requires most { count ≤ MAX_PIVOTS }
-    ensures { Proposed (inputs_in candidates.now) count (S.state out.old) (S.state out.new) result }
+    ensures { Proposed (inputs_in inputs.now) count (S.state out.old) (S.state out.new) result }
 {
-    let Ok(objects) = objects_of(alloc, &candidates.script) else {
+    let Ok(objects) = objects_of(alloc, inputs.scripts.at(0)) else {
         return ended(Status::NoMemory, send_memory(out));
     };
-    match choice_of(alloc, &candidates.metric, &objects, count) {
+    match choice_of(alloc, &inputs.metric, &objects, count) {
         Ok(choice) => ended(Status::Done, send_choice(&objects, &choice, out)),
         Err(NoMemory) => ended(Status::NoMemory, send_memory(out)),
     }
@@ -153,8 +124,8 @@ fn answer_choose<F: Files, S: Sink>(
     let Some(count) = count_in_words(words) else {
         return ended(Status::Usage, send_usage(out));
     };
-    match load_candidates(alloc, words[1].as_str(), words[2].as_str(), files) {
-        Ok(candidates) => propose(alloc, &candidates, count, out),
+    match load(alloc, words[1].as_str(), &words[2..3], files) {
+        Ok(inputs) => propose(alloc, &inputs, count, out),
         Err(stop) => stopped(stop, out),
     }
 }

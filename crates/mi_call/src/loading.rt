@@ -82,7 +82,7 @@ fn fault_of(file: u32, fault: InputFault) -> Stop
 }
 
 /// Reads the settings, which are the first file.
-pub fn load_settings<F: Files>(alloc: Global, name: &str, files: &mut F) -> Result<Settings, Stop>
+fn load_settings<F: Files>(alloc: Global, name: &str, files: &mut F) -> Result<Settings, Stop>
     ensures loads { Loads (F.state files.old) (F.state files.new) name.now 0 (in_file 0 settings_in) result }
     ensures contents { KeepsContents (F.state files.old) (F.state files.new) }
 {
@@ -118,7 +118,7 @@ fn load_schedule<F: Files>(
 }
 
 /// Reads a script, whose name is at this place among the names.
-pub fn load_script<F: Files>(
+fn load_script<F: Files>(
     alloc: Global,
     name: &str,
     file: u32,
@@ -162,7 +162,7 @@ fn load_scripts<F: Files>(
 }
 
 /// The metric of the settings, unless their table has a fault.
-pub fn metric_of(alloc: Global, settings: &Settings) -> Result<AnyMetric, Stop>
+fn metric_of(alloc: Global, settings: &Settings) -> Result<AnyMetric, Stop>
     ensures { HasMetric settings.now result }
 {
     match AnyMetric::of(alloc, settings) {
